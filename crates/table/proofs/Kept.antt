@@ -1,0 +1,1 @@
+-- `Kept` holds of S and fails of a table with a deadline 0.

@@ -1,0 +1,1 @@
+-- The numbering of tasks: each number below the count belongs to exactly one task, and to no other.

@@ -1,0 +1,6 @@
+pub mod Sum
+pub mod Table
+pub mod Limits
+pub mod Kept
+pub mod Number
+pub mod Sample
