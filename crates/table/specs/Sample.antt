@@ -10,13 +10,13 @@ plain O C P D = record { offset = O; jitter = 0; blocking = 0; deadline = D; pri
 -- S: frame 20; a transaction of two tasks, and one of a single less urgent task
 abbrev pub S : Table
 S =
-    record
-    { edition = 1
-    ; frame = 20
-    ; transactions =
-        record { period = 20; modes = 1; tasks = plain 0 2 9 10 ∷ plain 4 3 8 10 ∷ [] }
-        ∷ record { period = 20; modes = 1; tasks = plain 0 2 1 4 ∷ [] }
-        ∷ []
+    record {
+      edition = 1;
+      frame = 20;
+      transactions =
+          record { period = 20; modes = 1; tasks = plain 0 2 9 10 ∷ plain 4 3 8 10 ∷ [] }
+          ∷ record { period = 20; modes = 1; tasks = plain 0 2 1 4 ∷ [] }
+          ∷ [];
     }
 
 -- a table of one task, whose period is the major frame

@@ -5,21 +5,21 @@ use Prim.Native.Nat.{ℕ, _<_}
 use lib.ListN.{length, getD}
 
 pub record Task : Type 0 where
-  pub offset : ℕ -- O
-  pub jitter : ℕ -- J
-  pub blocking : ℕ -- B
-  pub deadline : ℕ -- D
-  pub priority : ℕ -- P: a greater one is more urgent
-  pub times : List ℕ -- C, one for each mode
+  pub offset : ℕ  -- O
+  pub jitter : ℕ  -- J
+  pub blocking : ℕ  -- B
+  pub deadline : ℕ  -- D
+  pub priority : ℕ  -- P: a greater one is more urgent
+  pub times : List ℕ  -- C, one for each mode
 
 pub record Transaction : Type 0 where
-  pub period : ℕ -- T
+  pub period : ℕ  -- T
   pub modes : ℕ
   pub tasks : List Task
 
 pub record Table : Type 0 where
   pub edition : ℕ
-  pub frame : ℕ -- the major frame
+  pub frame : ℕ  -- the major frame
   pub transactions : List Transaction
 
 -- what stands where no task, or no transaction, does

@@ -1,0 +1,85 @@
+-- The bound of a task a in transaction u: the greatest response over its modes, its candidates and its queued jobs. Job
+-- numbers and responses are signed.
+use mathlib.Core.Path.{_≡_}
+use lib.IntN.{ℤ, pos, _+ℤ_, _-ℤ_, _*ℤ_}
+use lib.Signed.{_≤ℤ_}
+use Prim.Native.Nat.{ℕ, _+_, _*_, _≤_, _<_}
+use Rattle.table.specs.Table.{Table, period, modes, tasks, offset, blocking, time}
+use Rattle.table.specs.Limits.{horizon}
+use Rattle.periods.specs.Phase.{ceiling}
+use Rattle.periods.specs.Charge.{released}
+use Rattle.analysis.specs.Choice.{Least, count}
+use Rattle.analysis.specs.Rival.{Candidate}
+use Rattle.analysis.specs.Charge.{Later, phaseOf, heldOf, rivals}
+
+-- First job number p0 = 1 − floor((J + F)/T), F being a's phase. It can be 0 or below
+unfoldable pub firstJob : Table → ℕ → ℕ → ℕ → ℤ
+firstJob tab u a c = pos 1 -ℤ pos (heldOf tab u c a)
+
+-- ceil((t − F)/T), the last job number by t
+unfoldable pub lastJob : Table → ℕ → ℕ → ℕ → ℕ → ℤ
+lastJob tab u a c t = ceiling (pos t -ℤ pos (phaseOf tab u c a)) (period tab u)
+
+-- p − p0 + 1, the number of jobs from the first to p
+unfoldable pub jobsTo : Table → ℕ → ℕ → ℕ → ℤ → ℕ
+jobsTo tab u a c p = count (p -ℤ firstJob tab u a c +ℤ pos 1)
+
+-- B + (p − p0 + 1)·C + the rivals' charges at t
+unfoldable pub demand : Later → Table → ℕ → ℕ → ℕ → ℕ → ℤ → ℕ → ℕ
+demand later tab u a m c p t =
+    blocking tab u a + jobsTo tab u a c p * time tab u m a + rivals later tab u a m c t
+
+-- the demand by t of all jobs up to t, with released charges
+unfoldable pub busy : Table → ℕ → ℕ → ℕ → ℕ → ℕ → ℕ
+busy tab u a m c t = demand released tab u a m c (lastJob tab u a c t) t
+
+-- Busy length L: the least t ≥ 1 with that demand ≤ t
+abbrev pub BusyLength : Table → ℕ → ℕ → ℕ → ℕ → ℕ → Type 0
+BusyLength tab u a m c = Least (λ t. (1 ≤ t) × (busy tab u a m c t ≤ t))
+
+-- Completion w of job p: the least t with demand = t
+abbrev pub Completion : Later → Table → ℕ → ℕ → ℕ → ℕ → ℤ → ℕ → Type 0
+Completion later tab u a m c p = Least (λ t. demand later tab u a m c p t ≡ t)
+
+-- Response of job p that completes at w: w − (F + (p − 1)·T) + O
+unfoldable pub response : Table → ℕ → ℕ → ℕ → ℤ → ℕ → ℤ
+response tab u a c p w =
+    pos w -ℤ (pos (phaseOf tab u c a) +ℤ (p -ℤ pos 1) *ℤ pos (period tab u)) +ℤ pos (offset tab u a)
+
+-- a mode of u where a has C > 0, and a candidate in it
+pub record Setting (tab : Table) (u a m c : ℕ) : Type 0 where
+  pub mode : m < modes tab u
+  pub runs : 0 < time tab u m a
+  pub place : c < tasks tab u
+  pub candidate : Candidate tab u a m c
+
+-- r is the response of job p, one of p0 to ceil((L − F)/T), in that mode with that candidate
+pub record Response (later : Later) (tab : Table) (u a m c : ℕ) (p r : ℤ) : Type 0 where
+  pub L : ℕ
+  pub busyLength : BusyLength tab u a m c L
+  pub first : firstJob tab u a c ≤ℤ p
+  pub last : p ≤ℤ lastJob tab u a c L
+  pub w : ℕ
+  pub completion : Completion later tab u a m c p w
+  pub is : r ≡ response tab u a c p w
+
+-- some busy length within the horizon
+pub record Within (tab : Table) (u a m c : ℕ) : Type 0 where
+  pub L : ℕ
+  pub busyLength : BusyLength tab u a m c L
+  pub within : L ≤ horizon
+
+-- some mode, candidate and job have this response
+pub record Attained (later : Later) (tab : Table) (u a : ℕ) (r : ℤ) : Type 0 where
+  pub m : ℕ
+  pub c : ℕ
+  pub p : ℤ
+  pub setting : Setting tab u a m c
+  pub response : Response later tab u a m c p r
+
+-- The bound: every busy length is within the horizon, some response is R, and none is above it. With `imposed` this is
+-- the bound of demand 2, with `released` the whole-job bound of demand 3
+pub record Bound (later : Later) (tab : Table) (u a R : ℕ) : Type 0 where
+  pub within : (m c : ℕ) → Setting tab u a m c → Within tab u a m c
+  pub attained : Attained later tab u a (pos R)
+  pub greatest : (m c : ℕ) (p r : ℤ) → Setting tab u a m c → Response later tab u a m c p r → r ≤ℤ pos R

@@ -1,0 +1,13 @@
+pub mod Choice
+pub mod Rival
+pub mod Charge
+pub mod Bound
+pub mod Overload
+pub mod Chain
+pub mod Order
+pub mod Needed
+pub mod Answer
+pub mod Walk
+pub mod Run
+pub mod Legal
+pub mod Promise

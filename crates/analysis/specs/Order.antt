@@ -1,0 +1,30 @@
+-- The order of the walk: modes of u where a has C > 0, ascending, and in each the candidates in image order.
+use mathlib.Core.List.{List, [], _∷_, _++_, map, filter}
+use Prim.Native.Nat.{ℕ, zero, suc}
+use native.Mathlib.Decide.{decLt}
+use Rattle.table.specs.Table.{Table, modes, tasks, time}
+use Rattle.analysis.specs.Rival.{candidate?}
+
+-- k, k + 1, .., k + n − 1
+unfoldable pub from : ℕ → ℕ → List ℕ
+from k zero = []
+from k (suc n) = k ∷ from (suc k) n
+
+-- one turn of the walk
+pub record Turn : Type 0 where
+  pub mode : ℕ
+  pub candidate : ℕ
+
+unfoldable pub runningModes : Table → ℕ → ℕ → List ℕ
+runningModes tab u a = filter (λ m. decLt 0 (time tab u m a)) (from 0 (modes tab u))
+
+unfoldable pub candidates : Table → ℕ → ℕ → ℕ → List ℕ
+candidates tab u a m = filter (candidate? tab u a m) (from 0 (tasks tab u))
+
+-- the turns of these modes
+unfoldable pub turns : Table → ℕ → ℕ → List ℕ → List Turn
+turns tab u a [] = []
+turns tab u a (m ∷ ms) = map (λ c. record { mode = m; candidate = c }) (candidates tab u a m) ++ turns tab u a ms
+
+unfoldable pub walkOrder : Table → ℕ → ℕ → List Turn
+walkOrder tab u a = turns tab u a (runningModes tab u a)

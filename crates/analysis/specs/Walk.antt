@@ -1,0 +1,92 @@
+-- The walk with a budget, as a function that computes a task's answer. What it computes is proved to be what `Answers`
+-- says; nothing else has to be believed of it.
+use mathlib.Core.Path.{_≡_}
+use mathlib.Core.List.{List, [], _∷_}
+use Prim.Native.Nat.{ℕ, zero, suc, _+_, _-_, max}
+use native.Mathlib.Decide.{decLt, ℕ-discrete}
+use Rattle.table.specs.Table.{Table}
+use Rattle.table.specs.Limits.{horizon}
+use Rattle.analysis.specs.Choice.{count}
+use Rattle.analysis.specs.Charge.{Later}
+use Rattle.analysis.specs.Bound.{lastJob, jobsTo, demand, busy, response}
+use Rattle.analysis.specs.Overload.{frameDemand}
+use Rattle.analysis.specs.Chain.{End, came, over}
+use Rattle.analysis.specs.Order.{Turn, walkOrder}
+use Rattle.analysis.specs.Needed.{Beyond, Never, job, start}
+use Rattle.analysis.specs.Answer.{Answer, bound, overload, beyond, spent}
+
+-- a chain with a budget: how it ended, and how many evaluations are left; or none was left when one more was due
+pub data Stop : Type 0 where
+  ended : (e : End) (left : ℕ) → Stop
+  short : Stop
+
+unfoldable pub chain : (f : ℕ → ℕ) {Over : ℕ → Type 0} (over? : (v : ℕ) → Dec (Over v)) (left t : ℕ) → Stop
+chain f over? zero t = short
+chain f over? (suc left) t =
+    elim (ℕ-discrete (f t) t) [
+      | yes e ↦ ended (came t) left
+      | no h ↦ elim (over? (f t)) [ yes o ↦ ended over left | no o ↦ chain f over? left (f t) ]
+    ]
+
+abbrev pub beyond? : (v : ℕ) → Dec (Beyond v)
+beyond? v = decLt horizon v
+
+abbrev pub never? : (v : ℕ) → Dec (Never v)
+never? v = no (λ x. x)
+
+-- how far a walk came: through, with what is left of the budget and the greatest response so far; past the horizon; or
+-- short of budget
+pub data Walked : Type 0 where
+  through : (left best : ℕ) → Walked
+  past : (left : ℕ) → Walked
+  short : Walked
+
+-- the jobs N, N + 1, .. of one turn, `todo` of them; `later` is the charge of later jobs in each completion
+unfoldable pub walkJobs : Later → Table → ℕ → ℕ → ℕ → ℕ → (todo N left best : ℕ) → Walked
+walkJobs later tab u a m c zero N left best = through left best
+walkJobs later tab u a m c (suc todo) N left best =
+    elim (chain (demand later tab u a m c (job tab u a c N)) never? left (start tab u a m c (job tab u a c N))) [
+      | ended (came w) l ↦
+          walkJobs later tab u a m c todo (suc N) l (max best (count (response tab u a c (job tab u a c N) w)))
+      | ended over l ↦ past l
+      | short ↦ short
+    ]
+
+-- one turn: the L chain, then the jobs
+unfoldable pub walkTurn : Later → Table → ℕ → ℕ → Turn → (left best : ℕ) → Walked
+walkTurn later tab u a s left best =
+    elim (chain (busy tab u a (s .mode) (s .candidate)) beyond? left 1) [
+      | ended (came L) l ↦
+          walkJobs later tab u a (s .mode) (s .candidate)
+          (jobsTo tab u a (s .candidate) (lastJob tab u a (s .candidate) L))
+          0
+          l
+          best
+      | ended over l ↦ past l
+      | short ↦ short
+    ]
+
+unfoldable pub walkTurns : Later → Table → ℕ → ℕ → List Turn → (left best : ℕ) → Walked
+walkTurns later tab u a [] left best = through left best
+walkTurns later tab u a (s ∷ rest) left best =
+    elim (walkTurn later tab u a s left best) [
+      | through l b ↦ walkTurns later tab u a rest l b
+      | past l ↦ past l
+      | short ↦ short
+    ]
+
+-- the answer of a walk that began with this budget
+unfoldable pub answerOf : ℕ → Walked → Answer
+answerOf budget (through left best) = bound best (budget - left)
+answerOf budget (past left) = beyond (budget - left)
+answerOf budget short = spent budget
+
+unfoldable pub answerBy : {A : Type 0} → Dec A → Answer → Answer
+answerBy (yes h) x = overload
+answerBy (no h) x = x
+
+-- the task's answer
+unfoldable pub answer : Later → Table → ℕ → ℕ → ℕ → Answer
+answer later tab u a budget =
+    answerBy (decLt (tab .frame) (frameDemand tab u a))
+    (answerOf budget (walkTurns later tab u a (walkOrder tab u a) budget 0))
