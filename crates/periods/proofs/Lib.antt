@@ -1,1 +1,5 @@
+pub mod Difference
+pub mod Congruence
 pub mod Phase
+pub mod Charge
+pub mod Slide
