@@ -9,7 +9,7 @@ use Rattle.table.specs.Limits.{horizon}
 use Rattle.periods.specs.Phase.{ceiling}
 use Rattle.periods.specs.Charge.{released}
 use Rattle.analysis.specs.Choice.{Least, count}
-use Rattle.analysis.specs.Rival.{Candidate}
+use Rattle.analysis.specs.Rival.{Candidate, Runs}
 use Rattle.analysis.specs.Charge.{Later, phaseOf, heldOf, rivals}
 
 -- First job number p0 = 1 − floor((J + F)/T), F being a's phase. It can be 0 or below
@@ -49,7 +49,7 @@ response tab u a c p w =
 -- a mode of u where a has C > 0, and a candidate in it
 pub record Setting (tab : Table) (u a m c : ℕ) : Type 0 where
   pub mode : m < modes tab u
-  pub runs : 0 < time tab u m a
+  pub runs : Runs tab u m a
   pub place : c < tasks tab u
   pub candidate : Candidate tab u a m c
 

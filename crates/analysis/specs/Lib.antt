@@ -11,3 +11,5 @@ pub mod Walk
 pub mod Run
 pub mod Legal
 pub mod Promise
+pub mod Computing
+pub mod Cases

@@ -1,9 +1,8 @@
 -- The order of the walk: modes of u where a has C > 0, ascending, and in each the candidates in image order.
 use mathlib.Core.List.{List, [], _∷_, _++_, map, filter}
 use Prim.Native.Nat.{ℕ, zero, suc}
-use native.Mathlib.Decide.{decLt}
-use Rattle.table.specs.Table.{Table, modes, tasks, time}
-use Rattle.analysis.specs.Rival.{candidate?}
+use Rattle.table.specs.Table.{Table, modes, tasks}
+use Rattle.analysis.specs.Rival.{runs?, candidate?}
 
 -- k, k + 1, .., k + n − 1
 unfoldable pub from : ℕ → ℕ → List ℕ
@@ -16,7 +15,7 @@ pub record Turn : Type 0 where
   pub candidate : ℕ
 
 unfoldable pub runningModes : Table → ℕ → ℕ → List ℕ
-runningModes tab u a = filter (λ m. decLt 0 (time tab u m a)) (from 0 (modes tab u))
+runningModes tab u a = filter (λ m. runs? tab u m a) (from 0 (modes tab u))
 
 unfoldable pub candidates : Table → ℕ → ℕ → ℕ → List ℕ
 candidates tab u a m = filter (candidate? tab u a m) (from 0 (tasks tab u))

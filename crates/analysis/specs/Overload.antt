@@ -1,18 +1,19 @@
 -- Overload: what a and its rivals demand in one major frame exceeds the major frame.
 use mathlib.Core.Path.{_≡_}
 use Prim.Native.Nat.{ℕ, _*_, _/_, _<_}
-use native.Mathlib.Decide.{decLe, decLt, ℕ-discrete}
+use native.Mathlib.Decide.{decLe, ℕ-discrete}
 use Rattle.table.specs.Sum.{sum}
-use Rattle.table.specs.Table.{Table, transactions, period, modes, tasks, priority, time}
+use Rattle.table.specs.Table.{Table, transactions, period, modes, tasks, time}
 use Rattle.analysis.specs.Choice.{when, most}
+use Rattle.analysis.specs.Rival.{Runs, urgent?, runs?}
 
 -- the times of a and its rivals in transaction i and mode m: of every task with priority at least a's
 unfoldable pub load : Table → ℕ → ℕ → ℕ → ℕ → ℕ
-load tab u a i m = sum (tasks tab i) (λ j. when (decLe (priority tab u a) (priority tab i j)) (time tab i m j))
+load tab u a i m = sum (tasks tab i) (λ j. when (urgent? tab u a i j) (time tab i m j))
 
 -- The modes that count: for u only those where a runs, for any other transaction every mode
 abbrev pub Counts : Table → ℕ → ℕ → ℕ → ℕ → Type 0
-Counts tab u a i m = i ≡ u → 0 < time tab u m a
+Counts tab u a i m = i ≡ u → Runs tab u m a
 
 abbrev pub countsBy : {A B : Type 0} → Dec A → Dec B → Dec (A → B)
 countsBy (no h) d = yes (λ a. absurd (h a))
@@ -22,7 +23,7 @@ countsBy (yes a) (no h) = no (λ f. h (f a))
 -- the greatest load of transaction i over the modes that count
 unfoldable pub mostLoad : Table → ℕ → ℕ → ℕ → ℕ
 mostLoad tab u a i =
-    most (modes tab i) (λ m. when (countsBy (ℕ-discrete i u) (decLt 0 (time tab u m a))) (load tab u a i m))
+    most (modes tab i) (λ m. when (countsBy (ℕ-discrete i u) (runs? tab u m a)) (load tab u a i m))
 
 -- the demand in one major frame
 unfoldable pub frameDemand : Table → ℕ → ℕ → ℕ
@@ -30,3 +31,6 @@ frameDemand tab u a = sum (transactions tab) (λ i. tab .frame / period tab i * 
 
 abbrev pub Overload : Table → ℕ → ℕ → Type 0
 Overload tab u a = tab .frame < frameDemand tab u a
+
+unfoldable pub overload? : (tab : Table) (u a : ℕ) → Dec (Overload tab u a)
+overload? tab u a = decLe _ _

@@ -9,7 +9,7 @@ use Rattle.table.specs.Limits.{horizon}
 use Rattle.analysis.specs.Choice.{count}
 use Rattle.analysis.specs.Charge.{Later}
 use Rattle.analysis.specs.Bound.{lastJob, jobsTo, demand, busy, response}
-use Rattle.analysis.specs.Overload.{frameDemand}
+use Rattle.analysis.specs.Overload.{overload?}
 use Rattle.analysis.specs.Chain.{End, came, over}
 use Rattle.analysis.specs.Order.{Turn, walkOrder}
 use Rattle.analysis.specs.Needed.{Beyond, Never, job, start}
@@ -88,5 +88,5 @@ answerBy (no h) x = x
 -- the task's answer
 unfoldable pub answer : Later → Table → ℕ → ℕ → ℕ → Answer
 answer later tab u a budget =
-    answerBy (decLt (tab .frame) (frameDemand tab u a))
+    answerBy (overload? tab u a)
     (answerOf budget (walkTurns later tab u a (walkOrder tab u a) budget 0))

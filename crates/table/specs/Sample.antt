@@ -3,22 +3,24 @@ use mathlib.Core.List.{List, [], _∷_}
 use Prim.Native.Nat.{ℕ}
 use Rattle.table.specs.Table.{Task, Transaction, Table}
 
+abbrev pub task : (O J B D P : ℕ) → List ℕ → Task
+task O J B D P times =
+    record { offset = O; jitter = J; blocking = B; deadline = D; priority = P; times = times }
+
 -- a task of one mode, with no jitter and no blocking
-abbrev pub plain : ℕ → ℕ → ℕ → ℕ → Task
-plain O C P D = record { offset = O; jitter = 0; blocking = 0; deadline = D; priority = P; times = C ∷ [] }
+abbrev pub plain : (O C P D : ℕ) → Task
+plain O C P D = task O 0 0 D P (C ∷ [])
+
+abbrev pub transaction : (T modes : ℕ) → List Task → Transaction
+transaction T modes tasks = record { period = T; modes = modes; tasks = tasks }
+
+abbrev pub table : (frame : ℕ) → List Transaction → Table
+table frame transactions = record { edition = 1; frame = frame; transactions = transactions }
 
 -- S: frame 20; a transaction of two tasks, and one of a single less urgent task
 abbrev pub S : Table
-S =
-    record {
-      edition = 1;
-      frame = 20;
-      transactions =
-          record { period = 20; modes = 1; tasks = plain 0 2 9 10 ∷ plain 4 3 8 10 ∷ [] }
-          ∷ record { period = 20; modes = 1; tasks = plain 0 2 1 4 ∷ [] }
-          ∷ [];
-    }
+S = table 20 (transaction 20 1 (plain 0 2 9 10 ∷ plain 4 3 8 10 ∷ []) ∷ transaction 20 1 (plain 0 2 1 4 ∷ []) ∷ [])
 
 -- a table of one task, whose period is the major frame
-abbrev pub lone : ℕ → Task → Table
-lone T t = record { edition = 1; frame = T; transactions = record { period = T; modes = 1; tasks = t ∷ [] } ∷ [] }
+abbrev pub lone : (T : ℕ) → Task → Table
+lone T t = table T (transaction T 1 (t ∷ []) ∷ [])
