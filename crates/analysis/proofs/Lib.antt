@@ -1,0 +1,3 @@
+pub mod Dispatch
+pub mod ExtendTicks
+pub mod Extend

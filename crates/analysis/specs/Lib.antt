@@ -13,3 +13,4 @@ pub mod Legal
 pub mod Promise
 pub mod Computing
 pub mod Cases
+pub mod Choices
