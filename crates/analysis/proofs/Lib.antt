@@ -1,3 +1,5 @@
 pub mod Dispatch
 pub mod ExtendTicks
 pub mod Extend
+pub mod Exists
+pub mod ExistsDelayed
