@@ -3,3 +3,4 @@ pub mod ExtendTicks
 pub mod Extend
 pub mod Exists
 pub mod ExistsDelayed
+pub mod SampleRun
