@@ -4,3 +4,4 @@ pub mod Extend
 pub mod Exists
 pub mod ExistsDelayed
 pub mod SampleRun
+pub mod SampleRunBroken
