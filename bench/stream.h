@@ -1,0 +1,39 @@
+/* What the C programs share: the decoded table, and the answer to it. stream.c reads the stream of cases and prints the
+   lines; plain.c and fast.c each define `analyse`. */
+
+#ifndef BENCH_STREAM_H
+#define BENCH_STREAM_H
+
+#include <stdint.h>
+
+enum { TRANSACTIONS = 32, TASKS = 64, TASKS_IN_TRANSACTION = 16, MODES = 8, HORIZON = 16777215 };
+
+enum { BOUNDED = 0, LATE = 20, OVERLOAD = 21, PAST_HORIZON = 22, BUDGET_SPENT = 23 };
+
+/* Tasks are numbered from 0 in image order; transaction v has the tasks first[v] .. first[v + 1] - 1. */
+struct table {
+    int64_t frame;
+    int transactions;
+    int tasks;
+    int64_t period[TRANSACTIONS];
+    int modes[TRANSACTIONS];
+    int first[TRANSACTIONS + 1];
+    int transaction_of[TASKS];
+    int64_t offset[TASKS];
+    int64_t jitter[TASKS];
+    int64_t blocking[TASKS];
+    int64_t deadline[TASKS];
+    int priority[TASKS];
+    int64_t time[TASKS][MODES];
+};
+
+struct cells {
+    uint32_t code;
+    uint32_t bound;
+    uint32_t evaluations;
+};
+
+/* The cells of every task. */
+void analyse(const struct table *table, uint32_t budget, struct cells *cells);
+
+#endif

@@ -1,0 +1,65 @@
+/* Sumpcandle for a host in C: the worst-case response bound of one task of a bit-packed task table. One call reads the
+   image and answers for one task. */
+
+#ifndef SUMPCANDLE_H
+#define SUMPCANDLE_H
+
+#include <stddef.h>
+#include <stdint.h>
+
+#ifdef __cplusplus
+extern "C" {
+#endif
+
+/* The answer for the task of that number (from 0, in image order) within at most `budget` evaluations.
+
+   Upper 32 bits: a code or a refusal, one of those below. Lower 32 bits: with SUMPCANDLE_IN_TIME and SUMPCANDLE_LATE
+   the bound in ticks, from the task's event to its finish; with a refusal of the image its place, a bit position; else
+   0.
+
+   The caller owes: `image` points to `length` bytes that do not change during the call. It is never NULL, also where
+   `length` is 0. Any bytes, any task number and any budget are allowed. */
+uint64_t sumpcandle_response(const uint8_t *image, size_t length, uint32_t task, uint32_t budget);
+
+/* Codes: the image is good and has that task. */
+enum {
+    SUMPCANDLE_IN_TIME = 0,       /* bounded, and the bound keeps the deadline */
+    SUMPCANDLE_LATE = 20,         /* bounded, and the bound is above the deadline */
+    SUMPCANDLE_OVERLOAD = 21,     /* the task and its rivals demand more than the major frame */
+    SUMPCANDLE_PAST_HORIZON = 22, /* busy for longer than 16,777,215 ticks */
+    SUMPCANDLE_BUDGET_SPENT = 23  /* one more evaluation was due */
+};
+
+/* Refusals: the first fault of the image, or no such task. */
+enum {
+    SUMPCANDLE_CUT = 1,               /* the image ends inside a field */
+    SUMPCANDLE_EDITION = 2,           /* edition is not 1 */
+    SUMPCANDLE_FRAME = 3,             /* major frame 0 */
+    SUMPCANDLE_TRANSACTION_COUNT = 4, /* transaction count outside 1 to 32 */
+    SUMPCANDLE_PERIOD = 5,            /* period 0 or no divisor of the major frame */
+    SUMPCANDLE_MODE_COUNT = 6,        /* mode count outside 1 to 8 */
+    SUMPCANDLE_TASK_COUNT = 7,        /* task count outside 1 to 16, or more than 64 tasks in all */
+    SUMPCANDLE_DEADLINE = 8,          /* deadline 0 */
+    SUMPCANDLE_NO_TIME = 9,           /* a task with time 0 in every mode */
+    SUMPCANDLE_PADDING = 10,          /* a padding bit is 1 */
+    SUMPCANDLE_BYTES_FOLLOW = 11,     /* bytes follow the table */
+    SUMPCANDLE_NO_TASK = 13           /* the image is good and has no task of that number */
+};
+
+/* The upper half of an answer: a code or a refusal. */
+static inline uint32_t sumpcandle_number(uint64_t answer) { return (uint32_t)(answer >> 32); }
+
+/* The lower half of an answer: a bound or a place. */
+static inline uint32_t sumpcandle_value(uint64_t answer) { return (uint32_t)answer; }
+
+/* Whether an answer has a code, and not a refusal. */
+static inline int sumpcandle_is_code(uint64_t answer) {
+    uint32_t number = sumpcandle_number(answer);
+    return number == SUMPCANDLE_IN_TIME || number >= SUMPCANDLE_LATE;
+}
+
+#ifdef __cplusplus
+}
+#endif
+
+#endif

@@ -1,0 +1,177 @@
+//! Damaged images: each refusal at its place, two faults at once, and bytes that nobody wrote.
+
+use crate::draft::{fields, pack, Field, Kind};
+use crate::generate::tables::{self, TableKind};
+use crate::random::Random;
+use crate::table::{Table, Transaction};
+
+#[derive(Clone, Copy, Debug, PartialEq, Eq)]
+pub enum Damage {
+    Empty,
+    CutInField,
+    CutByte,
+    BadField(Kind),
+    TooManyTasks,
+    NoTime,
+    Padding,
+    BytesFollow,
+    TwoFaults,
+    FlippedBits,
+    RandomBytes,
+    HeadThenRandom,
+}
+
+pub const DAMAGES: &[Damage] = &[
+    Damage::Empty,
+    Damage::CutInField,
+    Damage::CutByte,
+    Damage::BadField(Kind::Edition),
+    Damage::BadField(Kind::Frame),
+    Damage::BadField(Kind::TransactionCount),
+    Damage::BadField(Kind::Period),
+    Damage::BadField(Kind::ModeCount),
+    Damage::BadField(Kind::TaskCount),
+    Damage::BadField(Kind::Deadline),
+    Damage::TooManyTasks,
+    Damage::NoTime,
+    Damage::Padding,
+    Damage::BytesFollow,
+    Damage::TwoFaults,
+    Damage::FlippedBits,
+    Damage::RandomBytes,
+    Damage::HeadThenRandom,
+];
+
+/// The image of a good table after some damage. Flipped bits may leave it good.
+pub fn damaged(random: &mut Random, table: &Table, damage: Damage) -> Vec<u8> {
+    let mut fields = fields(table);
+    match damage {
+        Damage::Empty => Vec::new(),
+        Damage::CutInField => cut_in_field(random, &fields),
+        Damage::CutByte => {
+            let mut image = pack(&fields);
+            image.truncate(random.below(image.len()));
+            image
+        }
+        Damage::BadField(kind) => {
+            spoil(random, &mut fields, kind, table.frame);
+            pack(&fields)
+        }
+        Damage::TooManyTasks => crate::draft::image(&crowded(random)),
+        Damage::NoTime => {
+            clear_times(random, &mut fields);
+            pack(&fields)
+        }
+        Damage::Padding => padding(random, &fields),
+        Damage::BytesFollow => {
+            let mut image = pack(&fields);
+            let count = random.pick(&[1, 1, 2, 3, 2600]);
+            image.extend((0..count).map(|_| if random.percent(50) { 0 } else { random.next() as u8 }));
+            image
+        }
+        Damage::TwoFaults => two_faults(random, fields, table.frame),
+        Damage::FlippedBits => {
+            let mut image = pack(&fields);
+            for _ in 0..random.within(1, 4) {
+                let at = random.below(8 * image.len());
+                image[at / 8] ^= 128 >> (at % 8);
+            }
+            image
+        }
+        Damage::RandomBytes => (0..random.within(1, 80)).map(|_| random.next() as u8).collect(),
+        Damage::HeadThenRandom => {
+            let mut image = pack(&fields);
+            let from = random.below(image.len());
+            image[from..].iter_mut().for_each(|byte| *byte = random.next() as u8);
+            image
+        }
+    }
+}
+
+fn cut_in_field(random: &mut Random, fields: &[Field]) -> Vec<u8> {
+    let index = random.below(fields.len());
+    let start = crate::draft::place(fields, index);
+    let bits = start + random.below(fields[index].kind.width());
+    let mut image = pack(fields);
+    image.truncate(bits / 8);
+    image
+}
+
+/// Some field of that kind takes a value that its check refuses.
+fn spoil(random: &mut Random, fields: &mut [Field], kind: Kind, frame: i64) {
+    let places: Vec<usize> = (0..fields.len()).filter(|&index| fields[index].kind == kind).collect();
+    let index = random.pick(&places);
+    fields[index].value = match kind {
+        Kind::Edition => random.pick(&[0, 2, 3, 4, 8, 9, 14, 15]),
+        Kind::Frame | Kind::Deadline => 0,
+        Kind::TransactionCount => random.pick(&[0, 33, 34, 63]),
+        Kind::Period => random.pick(&[0, frame - 1, frame + 1, 2 * frame, frame / 2 + 1]) % (1 << 24),
+        Kind::ModeCount => random.pick(&[0, 9, 10, 15]),
+        Kind::TaskCount => random.pick(&[0, 17, 18, 31]),
+        _ => unreachable!("no value of this field is refused by itself"),
+    };
+}
+
+/// More than 64 tasks, none of the counts above 16.
+fn crowded(random: &mut Random) -> Table {
+    let mut table = tables::table(random, TableKind::ManyTasks);
+    let whole = table.transactions[0].clone();
+    let count = |table: &Table| table.transactions.iter().map(|t| t.tasks.len()).sum::<usize>();
+    while count(&table) <= Table::TASKS {
+        let tasks = random.within(1, whole.tasks.len() as i64) as usize;
+        let part = Transaction { tasks: whole.tasks[..tasks].to_vec(), ..whole.clone() };
+        table.transactions.push(part);
+    }
+    table.transactions.truncate(Table::TRANSACTIONS);
+    table
+}
+
+/// Every time of some task is 0.
+fn clear_times(random: &mut Random, fields: &mut [Field]) {
+    let priorities: Vec<usize> = (0..fields.len()).filter(|&i| fields[i].kind == Kind::Priority).collect();
+    let first = random.pick(&priorities) + 1;
+    for field in fields[first..].iter_mut().take_while(|field| field.kind == Kind::Time) {
+        field.value = 0;
+    }
+}
+
+/// A padding bit 1, if there is padding, and sometimes a byte after it.
+fn padding(random: &mut Random, fields: &[Field]) -> Vec<u8> {
+    let mut image = pack(fields);
+    let end = crate::draft::place(fields, fields.len());
+    let bits = 8 * image.len() - end;
+    if bits > 0 {
+        let at = end + random.below(bits);
+        image[at / 8] |= 128 >> (at % 8);
+    }
+    if random.percent(30) {
+        image.push(random.next() as u8);
+    }
+    image
+}
+
+fn two_faults(random: &mut Random, mut fields: Vec<Field>, frame: i64) -> Vec<u8> {
+    let kinds = [
+        Kind::Edition,
+        Kind::Frame,
+        Kind::TransactionCount,
+        Kind::Period,
+        Kind::ModeCount,
+        Kind::TaskCount,
+        Kind::Deadline,
+    ];
+    let kind = random.pick(&kinds);
+    spoil(random, &mut fields, kind, frame);
+    if random.percent(50) {
+        clear_times(random, &mut fields);
+    }
+    match random.within(0, 3) {
+        0 => cut_in_field(random, &fields),
+        1 => padding(random, &fields),
+        _ => {
+            let kind = random.pick(&kinds);
+            spoil(random, &mut fields, kind, frame);
+            pack(&fields)
+        }
+    }
+}

@@ -1,0 +1,297 @@
+//! Good tables of many kinds. Each kind has something that an analysis could get wrong.
+
+use crate::bound::frame_demand;
+use crate::interference::{Charging, Fixed};
+use crate::random::Random;
+use crate::table::{Table, Task, Transaction};
+
+const FIELD_24: i64 = (1 << 24) - 1;
+const FIELD_26: i64 = (1 << 26) - 1;
+
+/// How large a field of ticks is, against the period of its transaction.
+#[derive(Clone, Copy)]
+enum Size {
+    Zero,
+    BelowPeriod,
+    SomePeriods,
+    Any,
+}
+
+impl Size {
+    fn draw(self, random: &mut Random, period: i64) -> i64 {
+        match self {
+            Size::Zero => 0,
+            Size::BelowPeriod => random.within(0, period - 1),
+            Size::SomePeriods => random.within(0, (4 * period).min(FIELD_24)),
+            Size::Any => {
+                let some = random.within(0, FIELD_24);
+                random.pick(&[0, 1, FIELD_24 - 1, FIELD_24, some])
+            }
+        }
+    }
+}
+
+/// What the tables of one kind have in common. `load` is the percentage of the frame that all times together aim at.
+#[derive(Clone, Copy)]
+struct Shape {
+    frames: &'static [i64],
+    transactions: (i64, i64),
+    tasks: (i64, i64),
+    modes: (i64, i64),
+    zeros: i64,
+    offset: Size,
+    jitter: Size,
+    blocking: Size,
+    priorities: i64,
+    load: (i64, i64),
+}
+
+const TINY_FRAMES: &[i64] = &[1, 2, 3, 4, 6, 8, 10, 12];
+const SMALL_FRAMES: &[i64] = &[10, 16, 20, 24, 30, 36, 40, 48, 60, 72];
+const MIDDLE_FRAMES: &[i64] = &[60, 120, 240, 360, 840, 1000, 1024, 2520];
+const WIDE_FRAMES: &[i64] = &[2520, 5040, 10_000, 27_720, 65_536, 100_800];
+const LARGE_FRAMES: &[i64] = &[720_720, 1_000_000, 8_388_608, 14_414_400, 16_777_200, 16_777_215];
+
+const PLAIN: Shape = Shape {
+    frames: SMALL_FRAMES,
+    transactions: (1, 4),
+    tasks: (1, 3),
+    modes: (1, 2),
+    zeros: 20,
+    offset: Size::BelowPeriod,
+    jitter: Size::Zero,
+    blocking: Size::Zero,
+    priorities: 8,
+    load: (20, 90),
+};
+
+/// The kinds of good tables, by the name that a reader would give them.
+#[derive(Clone, Copy, Debug, PartialEq, Eq)]
+pub enum TableKind {
+    Tiny,
+    Small,
+    Middle,
+    Large,
+    JitterAbovePeriod,
+    ModesWithZeros,
+    EqualPriorities,
+    OffsetAbovePeriod,
+    Blocking,
+    TimeAbovePeriod,
+    ExactlyFull,
+    JustOverloaded,
+    AroundHorizon,
+    ManyTransactions,
+    ManyTasks,
+    ManyModes,
+    AtAllLimits,
+    ExtremeFields,
+}
+
+pub const KINDS: &[TableKind] = &[
+    TableKind::Tiny,
+    TableKind::Small,
+    TableKind::Middle,
+    TableKind::Large,
+    TableKind::JitterAbovePeriod,
+    TableKind::ModesWithZeros,
+    TableKind::EqualPriorities,
+    TableKind::OffsetAbovePeriod,
+    TableKind::Blocking,
+    TableKind::TimeAbovePeriod,
+    TableKind::ExactlyFull,
+    TableKind::JustOverloaded,
+    TableKind::AroundHorizon,
+    TableKind::ManyTransactions,
+    TableKind::ManyTasks,
+    TableKind::ManyModes,
+    TableKind::AtAllLimits,
+    TableKind::ExtremeFields,
+];
+
+pub fn table(random: &mut Random, kind: TableKind) -> Table {
+    let shape = shape(random, kind);
+    let mut table = shaped(random, &shape);
+    match kind {
+        TableKind::TimeAbovePeriod => long_time(random, &mut table),
+        TableKind::ExactlyFull => fill(&mut table, 0),
+        TableKind::JustOverloaded => fill(&mut table, 1),
+        TableKind::AroundHorizon => reach_horizon(random, &mut table),
+        TableKind::ManyTasks => split_tasks(random, &mut table),
+        _ => (),
+    }
+    table
+}
+
+fn shape(random: &mut Random, kind: TableKind) -> Shape {
+    match kind {
+        TableKind::Tiny => Shape {
+            frames: TINY_FRAMES,
+            transactions: (1, 2),
+            tasks: (1, 2),
+            jitter: random.pick(&[Size::Zero, Size::BelowPeriod]),
+            blocking: random.pick(&[Size::Zero, Size::BelowPeriod]),
+            ..PLAIN
+        },
+        TableKind::Small | TableKind::TimeAbovePeriod => {
+            Shape { jitter: Size::BelowPeriod, blocking: Size::BelowPeriod, ..PLAIN }
+        }
+        TableKind::Middle => Shape {
+            frames: MIDDLE_FRAMES,
+            transactions: (2, 6),
+            tasks: (1, 5),
+            modes: (1, 3),
+            jitter: random.pick(&[Size::Zero, Size::BelowPeriod]),
+            blocking: random.pick(&[Size::Zero, Size::BelowPeriod]),
+            priorities: 12,
+            ..PLAIN
+        },
+        TableKind::Large => Shape {
+            frames: LARGE_FRAMES,
+            transactions: (1, 6),
+            tasks: (1, 4),
+            jitter: random.pick(&[Size::Zero, Size::BelowPeriod, Size::SomePeriods]),
+            blocking: random.pick(&[Size::Zero, Size::BelowPeriod]),
+            priorities: 256,
+            ..PLAIN
+        },
+        TableKind::JitterAbovePeriod => Shape { jitter: Size::SomePeriods, ..PLAIN },
+        TableKind::ModesWithZeros => {
+            Shape { modes: (2, 8), zeros: 60, jitter: random.pick(&[Size::Zero, Size::BelowPeriod]), ..PLAIN }
+        }
+        TableKind::EqualPriorities => Shape { priorities: 1, jitter: Size::BelowPeriod, ..PLAIN },
+        TableKind::OffsetAbovePeriod => {
+            Shape { offset: random.pick(&[Size::SomePeriods, Size::Any]), jitter: Size::BelowPeriod, ..PLAIN }
+        }
+        TableKind::Blocking => Shape { blocking: Size::SomePeriods, ..PLAIN },
+        TableKind::ExactlyFull | TableKind::JustOverloaded => {
+            Shape { frames: random.pick(&[SMALL_FRAMES, MIDDLE_FRAMES]), load: (30, 90), ..PLAIN }
+        }
+        TableKind::AroundHorizon => {
+            Shape { frames: &[8_388_607, 16_777_214, 16_777_215], transactions: (1, 2), load: (10, 60), ..PLAIN }
+        }
+        TableKind::ManyTransactions => {
+            Shape { frames: WIDE_FRAMES, transactions: (20, 32), tasks: (1, 2), priorities: 40, ..PLAIN }
+        }
+        TableKind::ManyTasks => {
+            Shape { frames: WIDE_FRAMES, transactions: (1, 3), tasks: (10, 16), priorities: 40, ..PLAIN }
+        }
+        TableKind::ManyModes => Shape { frames: WIDE_FRAMES, modes: (8, 8), tasks: (1, 6), zeros: 70, ..PLAIN },
+        TableKind::AtAllLimits => {
+            let transactions = random.pick(&[(4, 4), (32, 32)]);
+            let tasks = (64 / transactions.0, 64 / transactions.0);
+            let zeros = if transactions.0 == 4 { 90 } else { 50 };
+            Shape { frames: WIDE_FRAMES, transactions, tasks, modes: (8, 8), zeros, priorities: 64, ..PLAIN }
+        }
+        TableKind::ExtremeFields => Shape {
+            frames: random.pick(&[SMALL_FRAMES, LARGE_FRAMES]),
+            offset: Size::Any,
+            jitter: Size::Any,
+            blocking: Size::Any,
+            priorities: 256,
+            ..PLAIN
+        },
+    }
+}
+
+fn divisor(random: &mut Random, frame: i64) -> i64 {
+    // A divisor at hand: the frame shared out a few times, or the frame itself.
+    let mut period = frame;
+    for _ in 0..random.within(0, 3) {
+        let share = random.pick(&[2, 2, 3, 4, 5, 7]);
+        if period % share == 0 {
+            period /= share;
+        }
+    }
+    period
+}
+
+fn shaped(random: &mut Random, shape: &Shape) -> Table {
+    let frame = random.pick(shape.frames);
+    let count = random.within(shape.transactions.0, shape.transactions.1);
+    let load = random.within(shape.load.0, shape.load.1);
+    let mut left = Table::TASKS as i64;
+    let mut transactions = Vec::new();
+    for index in 0..count {
+        let others = count - index - 1;
+        let tasks = random.within(shape.tasks.0, shape.tasks.1).min(left - others).max(1);
+        left -= tasks;
+        transactions.push(transaction(random, shape, frame, tasks, load / count));
+    }
+    Table { frame, transactions }
+}
+
+fn transaction(random: &mut Random, shape: &Shape, frame: i64, count: i64, load: i64) -> Transaction {
+    let period = divisor(random, frame);
+    let modes = random.within(shape.modes.0, shape.modes.1) as usize;
+    // Twice the mean, so that the sum of the tasks comes near the load.
+    let longest = (2 * period * load / (100 * count)).clamp(1, FIELD_24);
+    let tasks = (0..count).map(|_| task(random, shape, period, modes, longest)).collect();
+    Transaction { period, modes, tasks }
+}
+
+fn task(random: &mut Random, shape: &Shape, period: i64, modes: usize, longest: i64) -> Task {
+    let mut times: Vec<i64> = (0..modes).map(|_| random.within(1, longest)).collect();
+    let runs_in = random.below(modes);
+    for (mode, time) in times.iter_mut().enumerate() {
+        if mode != runs_in && random.percent(shape.zeros) {
+            *time = 0;
+        }
+    }
+    let deadline = match random.within(0, 3) {
+        0 => random.within(1, 2 * period),
+        1 => FIELD_26,
+        _ => random.within(1, 8 * period).min(FIELD_26),
+    };
+    Task {
+        offset: shape.offset.draw(random, period),
+        jitter: shape.jitter.draw(random, period),
+        blocking: shape.blocking.draw(random, period),
+        deadline: deadline.min(FIELD_26),
+        priority: random.within(0, shape.priorities - 1),
+        times,
+    }
+}
+
+/// Some task in some mode runs longer than its period.
+fn long_time(random: &mut Random, table: &mut Table) {
+    let v = random.below(table.transactions.len());
+    let transaction = &mut table.transactions[v];
+    let j = random.below(transaction.tasks.len());
+    let mode = random.below(transaction.modes);
+    transaction.tasks[j].times[mode] = (transaction.period + random.within(0, 3)).min(FIELD_24);
+}
+
+/// A last task, least urgent and alone in a transaction of the frame's length, takes what the others leave over, and
+/// `more` ticks.
+fn fill(table: &mut Table, more: i64) {
+    let task = Task { offset: 0, jitter: 0, blocking: 0, deadline: FIELD_26, priority: 0, times: vec![1] };
+    table.transactions.push(Transaction { period: table.frame, modes: 1, tasks: vec![task] });
+    let u = table.transactions.len() - 1;
+    let others = frame_demand(&Fixed { table, u, a: 0 }) - 1;
+    table.transactions[u].tasks[0].times[0] = (table.frame - others + more).clamp(1, FIELD_24);
+}
+
+/// A blocking time with which some task's busy length comes out at H, or a tick beside it.
+fn reach_horizon(random: &mut Random, table: &mut Table) {
+    let u = random.below(table.transactions.len());
+    let a = random.below(table.transactions[u].tasks.len());
+    let fixed = Fixed { table, u, a };
+    let mode = (0..fixed.own().modes).find(|&mode| fixed.task().times[mode] > 0).expect("it runs in some mode");
+    let own_jobs = (Table::HORIZON + fixed.own().period - 1) / fixed.own().period;
+    let demand = own_jobs * fixed.task().times[mode] + fixed.charges(Charging::Released, a, mode, Table::HORIZON);
+    let blocking = Table::HORIZON - demand + random.within(-1, 1);
+    table.transactions[u].tasks[a].blocking = blocking.clamp(0, FIELD_24);
+}
+
+/// Sometimes the tasks come to 64 in all, the last transaction taking what is left.
+fn split_tasks(random: &mut Random, table: &mut Table) {
+    let count: usize = table.transactions.iter().map(|transaction| transaction.tasks.len()).sum();
+    let mut left = Table::TASKS - count;
+    while random.percent(70) && left > 0 {
+        let mut last = table.transactions[random.below(table.transactions.len())].clone();
+        last.tasks.truncate(left);
+        left -= last.tasks.len();
+        table.transactions.push(last);
+    }
+}

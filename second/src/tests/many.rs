@@ -1,0 +1,88 @@
+//! What must hold of every generated case.
+
+use super::*;
+use crate::answer::{all_cells, answer, host};
+use crate::generate::tables::{table, KINDS};
+use crate::generate::{case, Case};
+use crate::image::read;
+use crate::random::Random;
+use crate::simulate::{simulate, Settings};
+use crate::{draft, stream};
+use std::collections::BTreeSet;
+
+#[test]
+fn good_tables_are_read_back() {
+    for index in 0..50 {
+        for &kind in KINDS {
+            let table = table(&mut Random::of(7, index), kind);
+            assert_eq!(read(&draft::image(&table)), Ok(table));
+        }
+    }
+}
+
+#[test]
+fn every_answer_is_generated() {
+    let mut numbers = BTreeSet::new();
+    for index in 0..3000 {
+        let Case { budget, image } = case(1, index);
+        match answer(&image, budget) {
+            Err(refusal) => drop(numbers.insert(refusal.number)),
+            Ok(row) => numbers.extend(row.iter().map(|cells| cells.code)),
+        }
+    }
+    assert_eq!(numbers, BTreeSet::from_iter([0, 1, 2, 3, 4, 5, 6, 7, 8, 9, 10, 11, 20, 21, 22, 23]));
+}
+
+#[test]
+fn the_host_is_told_the_same_as_the_cells() {
+    for index in 0..300 {
+        let Case { budget, image } = case(2, index);
+        match answer(&image, budget) {
+            Err(refusal) => assert_eq!(host(&image, 0, budget), ((refusal.number as u64) << 32) + refusal.place as u64),
+            Ok(row) => {
+                for (number, cells) in row.iter().enumerate() {
+                    let expected = ((cells.code as u64) << 32) + cells.bound as u64;
+                    assert_eq!(host(&image, number as u32, budget), expected);
+                }
+                assert_eq!(host(&image, row.len() as u32, budget), 13 << 32);
+            }
+        }
+    }
+}
+
+/// A job charged whole is charged no less than one charged as far as it is imposed.
+#[test]
+fn the_whole_job_bound_is_no_smaller() {
+    for index in 0..500 {
+        let Case { budget, image } = case(3, index);
+        let Ok(table) = read(&image) else { continue };
+        let bounds = all_cells(&table, Charging::Imposed, budget);
+        let whole = all_cells(&table, Charging::Released, budget);
+        for (bound, whole) in bounds.iter().zip(&whole) {
+            if bound.bound > 0 && whole.bound > 0 {
+                assert!(bound.bound <= whole.bound);
+            }
+        }
+    }
+}
+
+#[test]
+fn a_stream_is_read_as_it_was_written() {
+    let cases: Vec<Case> = (0..100).map(|index| case(4, index)).collect();
+    let bytes: Vec<u8> = cases.iter().flat_map(stream::encoded).collect();
+    let mut input = &bytes[..];
+    for case in &cases {
+        assert_eq!(stream::next(&mut input).unwrap().as_ref(), Some(case));
+    }
+    assert_eq!(stream::next(&mut input).unwrap(), None);
+    assert!(stream::next(&mut &bytes[..3]).is_err());
+}
+
+#[test]
+fn legal_runs_keep_the_bounds() {
+    for wide in [false, true] {
+        let counts = simulate(&Settings { runs: 2000, seed: 1, wide });
+        assert_eq!(counts.violations, 0);
+        assert!(2 * counts.attained > counts.bounded, "the runs are hard on the bounds: {counts:?}");
+    }
+}
