@@ -1,3 +1,13 @@
+pub mod Choice
+pub mod Bounds
+pub mod Join
+pub mod Apart
+pub mod Search
+pub mod Jobs
+pub mod Task
+pub mod Busy
+pub mod Steady
+pub mod Sound
 pub mod Dispatch
 pub mod ExtendTicks
 pub mod Extend
