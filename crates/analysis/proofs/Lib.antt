@@ -1,6 +1,17 @@
 pub mod Choice
-pub mod Bounds
 pub mod Join
+pub mod Chain
+pub mod Charges
+pub mod Signed
+pub mod Order
+pub mod Turn
+pub mod Walk
+pub mod Response
+pub mod Greatest
+pub mod Answer
+pub mod Whole
+pub mod Budget
+pub mod Bounds
 pub mod Apart
 pub mod Search
 pub mod Jobs
@@ -8,6 +19,7 @@ pub mod Task
 pub mod Busy
 pub mod Steady
 pub mod Sound
+pub mod Demand
 pub mod Dispatch
 pub mod ExtendTicks
 pub mod Extend
