@@ -1,3 +1,10 @@
+pub mod Dispatch
+pub mod ExtendTicks
+pub mod Extend
+pub mod Exists
+pub mod ExistsDelayed
+pub mod SampleRun
+pub mod SampleRunBroken
 pub mod Choice
 pub mod Join
 pub mod Chain
@@ -20,10 +27,3 @@ pub mod Busy
 pub mod Steady
 pub mod Sound
 pub mod Demand
-pub mod Dispatch
-pub mod ExtendTicks
-pub mod Extend
-pub mod Exists
-pub mod ExistsDelayed
-pub mod SampleRun
-pub mod SampleRunBroken
