@@ -1,12 +1,11 @@
 -- Demand 3, of demand 2's bound: it holds in every legal run, and the whole-job bound is not below it.
 use mathlib.Core.Path.{_≡_}
-use Prim.Native.Nat.{ℕ, _+_, _≤_}
-use native.Mathlib.Omega.{arith}
+use Prim.Native.Nat.{ℕ, _+_}
 use Rattle.table.specs.Table.{Table, IsTask}
 use Rattle.table.specs.Kept.{Kept}
 use Rattle.periods.specs.Charge.{imposed}
 use Rattle.analysis.specs.Bound.{Bound}
-use Rattle.analysis.specs.Answer.{Answer, Answers, bound, kept}
+use Rattle.analysis.specs.Answer.{Answers, bound, kept}
 use Rattle.analysis.specs.Walk.{answer}
 use Rattle.analysis.specs.Run.{Run, Finished, eventTick}
 use Rattle.analysis.specs.Legal.{Rules, HoldsWidely}

@@ -27,3 +27,4 @@ pub mod Busy
 pub mod Steady
 pub mod Sound
 pub mod Demand
+pub mod Sample

@@ -1,8 +1,7 @@
 -- A task's answer, its three cells, and when each answer is the right one.
-use mathlib.Core.Path.{_≡_}
 use Prim.Native.Nat.{ℕ, _≤_, _<_}
 use native.Mathlib.Decide.{decLe}
-use Rattle.table.specs.Table.{Table, deadline}
+use Rattle.table.specs.Table.{Table}
 use Rattle.periods.specs.Charge.{imposed}
 use Rattle.analysis.specs.Bound.{Bound}
 use Rattle.analysis.specs.Overload.{Overload}

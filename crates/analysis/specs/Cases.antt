@@ -1,17 +1,16 @@
 -- The definitions computed at small tables, each of which tells a right definition from a wrong one.
 use mathlib.Core.Path.{_≡_, refl}
-use mathlib.Core.List.{List, [], _∷_, map}
-use lib.IntN.{ℤ, pos, negsuc}
-use Prim.Native.Nat.{ℕ}
+use mathlib.Core.List.{[], _∷_, map}
+use lib.IntN.{pos, negsuc}
 use Rattle.table.specs.Table.{Table}
 use Rattle.table.specs.Sample.{S, lone, plain, task, transaction, table}
 use Rattle.periods.specs.Charge.{imposed, released}
-use Rattle.analysis.specs.Charge.{phaseOf, heldOf, taskCharge, charge, greatest, rivals}
-use Rattle.analysis.specs.Bound.{firstJob, lastJob, jobsTo, demand, busy, response}
-use Rattle.analysis.specs.Overload.{load, mostLoad, frameDemand}
-use Rattle.analysis.specs.Order.{Turn, runningModes, candidates, walkOrder}
+use Rattle.analysis.specs.Charge.{phaseOf, heldOf, charge, greatest, rivals}
+use Rattle.analysis.specs.Bound.{firstJob, lastJob, demand, busy, response}
+use Rattle.analysis.specs.Overload.{frameDemand}
+use Rattle.analysis.specs.Order.{walkOrder}
 use Rattle.analysis.specs.Needed.{job, start}
-use Rattle.analysis.specs.Answer.{Answer, bound, overload, beyond, spent, Cells, cells}
+use Rattle.analysis.specs.Answer.{bound, overload, beyond, spent, cells}
 use Rattle.analysis.specs.Walk.{answer}
 use Rattle.analysis.specs.Computing.{computing}
 

@@ -1,6 +1,5 @@
 -- Interference: what the rivals of a task a in transaction u charge by t. `later` is the charge of later jobs, `imposed`
 -- or `released` of crate periods.
-use mathlib.Core.Path.{_≡_}
 use lib.IntN.{ℤ, pos, _-ℤ_}
 use Prim.Native.Nat.{ℕ, _+_, _*_}
 use native.Mathlib.Decide.{ℕ-discrete}

@@ -2,7 +2,7 @@
 -- first L chain whose value passes H.
 use mathlib.Core.List.{List, [], _∷_}
 use lib.IntN.{ℤ, pos, _+ℤ_}
-use Prim.Native.Nat.{ℕ, zero, suc, _+_, _*_, _<_}
+use Prim.Native.Nat.{ℕ, suc, _+_, _*_, _<_}
 use Rattle.table.specs.Table.{Table, blocking, time}
 use Rattle.table.specs.Limits.{horizon}
 use Rattle.periods.specs.Charge.{imposed}

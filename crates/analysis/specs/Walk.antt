@@ -1,8 +1,7 @@
 -- The walk with a budget, as a function that computes a task's answer. What it computes is proved to be what `Answers`
 -- says; nothing else has to be believed of it.
-use mathlib.Core.Path.{_≡_}
 use mathlib.Core.List.{List, [], _∷_}
-use Prim.Native.Nat.{ℕ, zero, suc, _+_, _-_, max}
+use Prim.Native.Nat.{ℕ, zero, suc, _-_, max}
 use native.Mathlib.Decide.{decLt, ℕ-discrete}
 use Rattle.table.specs.Table.{Table}
 use Rattle.table.specs.Limits.{horizon}

@@ -2,20 +2,7 @@
 use mathlib.Core.Path.{_≡_, refl, ap, sym, _∙_}
 use lib.IntN.{ℤ, pos, negsuc, negℤ, _-ℤ_}
 use Prim.Native.Nat.{ℕ, zero, suc, _+_, _*_, _-_, _/_, _%_, _≤_, _<_, min}
-use native.Mathlib.Nat.{
-  mod-lt,
-  div-add-mod',
-  suc-mul,
-  zero-mul,
-  mul-le-mul-right,
-  le-div-iff-mul-le,
-  div-mul-le-self,
-  add-div-right,
-  add-mod-right,
-  zero-div,
-  zero-mod,
-  div-eq-of-lt,
-}
+use native.Mathlib.Nat.{div-add-mod', suc-mul, zero-mul, mul-le-mul-right, le-div-iff-mul-le, div-mul-le-self, add-div-right, add-mod-right, zero-div, zero-mod, div-eq-of-lt}
 use native.Mathlib.Decide.{decLt}
 use native.Mathlib.Omega.{arith}
 use lib.Arith.{digits-div, digits-mod}

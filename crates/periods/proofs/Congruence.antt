@@ -1,8 +1,7 @@
 -- Numbers that leave the same remainder by T. `step` and `mod-inj` serve for every argument about remainders.
-use mathlib.Core.Path.{_≡_, refl, ap, sym, _∙_}
-use Prim.Native.Nat.{ℕ, zero, suc, _+_, _*_, _-_, _/_, _%_, _≤_, _<_}
-use native.Mathlib.Nat.{div-add-mod', lt-of-mul-lt-mul-right, suc-mul, add-mul, le-dest, mod-lt}
-use native.Mathlib.Decide.{decLt}
+use mathlib.Core.Path.{_≡_, ap}
+use Prim.Native.Nat.{ℕ, zero, suc, _+_, _*_, _/_, _%_, _<_}
+use native.Mathlib.Nat.{div-add-mod', lt-of-mul-lt-mul-right, suc-mul, add-mul, le-dest}
 use native.Mathlib.Omega.{arith}
 
 -- A = B + N·T

@@ -1,8 +1,8 @@
 -- Phases: in 0..T−1, congruent to O − y, and the only such number.
-use mathlib.Core.Path.{_≡_, refl, ap, sym, _∙_}
+use mathlib.Core.Path.{_≡_, ap, sym, _∙_}
 use lib.IntN.{ℤ, pos, negsuc, _-ℤ_}
-use Prim.Native.Nat.{ℕ, zero, suc, _+_, _*_, _-_, _/_, _%_, _≤_, _<_}
-use native.Mathlib.Nat.{mod-lt, mod-add-mod, add-mod-mod, add-mul-mod-self-right, div-add-mod', suc-mul, mod-eq-of-lt, add-mod-right, mul-div-cancel, add-assoc}
+use Prim.Native.Nat.{ℕ, suc, _+_, _*_, _-_, _/_, _%_, _≤_, _<_}
+use native.Mathlib.Nat.{mod-lt, mod-add-mod, add-mod-mod, add-mul-mod-self-right, div-add-mod', suc-mul, add-mod-right}
 use native.Mathlib.Omega.{arith}
 use lib.Arith.{digits-div}
 use Rattle.periods.specs.Phase.{remainder, ceil, phase, held}

@@ -1,13 +1,13 @@
 -- The critical instant slides to a candidate: of one task, the charge counted from the later instant is not below that
 -- counted from the earlier one. The jobs that become ready between the two are held back to the later instant.
-use mathlib.Core.Path.{_≡_, refl, ap, sym, _∙_}
+use mathlib.Core.Path.{_≡_, ap, sym, _∙_}
 use mathlib.Core.Logic.{_⊎_, inl, inr}
 use Prim.Native.Nat.{ℕ, suc, _+_, _*_, _-_, _/_, _%_, _≤_, _<_}
 use native.Mathlib.Nat.{mod-lt, mod-add-mod, add-mod-mod, div-add-mod', suc-mul, mul-le-mul-right, le-div-iff-mul-le}
 use native.Mathlib.Decide.{decLt}
 use native.Mathlib.Omega.{arith}
 use Rattle.periods.specs.Phase.{phase, held}
-use Rattle.periods.proofs.Phase.{phase-lt, phase-spec, phase-unique, slide-back, slide-wrap}
+use Rattle.periods.proofs.Phase.{phase-spec, phase-unique, slide-back, slide-wrap}
 
 -- The phase falls from φ to φ′ and no job is lost, or it wraps and one job more is held back
 abbrev pub Slid : ℕ → ℕ → ℕ → ℕ → Type 0

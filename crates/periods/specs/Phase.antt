@@ -1,6 +1,6 @@
 -- Phases and counts of jobs over a period T, signed where document 01 is signed.
 use mathlib.Core.Path.{_≡_, refl}
-use mathlib.Core.List.{List, [], _∷_, map}
+use mathlib.Core.List.{[], _∷_, map}
 use lib.IntN.{ℤ, pos, negsuc, negℤ, _-ℤ_}
 use Prim.Native.Nat.{ℕ, suc, _+_, _-_, _/_, _%_}
 

@@ -1,14 +1,14 @@
 -- `Kept` holds of document 01's sample S, and fails of a task with deadline 0.
-use mathlib.Core.Path.{_≡_, refl}
-use mathlib.Core.List.{List, [], _∷_}
+use mathlib.Core.Path.{refl}
+use mathlib.Core.List.{[], _∷_}
 use Prim.Native.Nat.{ℕ, zero, suc, _≤_, _<_, _^_}
 use native.Mathlib.Omega.{arith}
 use lib.Dec.{lit<, lit≤}
-use lib.ListN.{length, getD}
+use lib.ListN.{getD}
 use Rattle.table.specs.Sum.{sum}
-use Rattle.table.specs.Table.{Table, noTask, transactions, transaction, tasks}
+use Rattle.table.specs.Table.{noTask, transactions, transaction, tasks}
 use Rattle.table.specs.Number.{before, inAll}
-use Rattle.table.specs.Kept.{Kept, KeptTransaction, KeptTask, Runs}
+use Rattle.table.specs.Kept.{Kept, KeptTransaction, KeptTask}
 use Rattle.table.specs.Sample.{S, plain, lone}
 
 -- a task of one mode keeps its bounds where its numbers do

@@ -1,7 +1,6 @@
 -- The definitions computed at document 01's sample S.
 use mathlib.Core.Path.{_≡_, refl}
-use mathlib.Core.List.{List, [], _∷_, map}
-use Prim.Native.Nat.{ℕ}
+use mathlib.Core.List.{[], _∷_}
 use Rattle.table.specs.Table.{
   transactions,
   period,

@@ -1,5 +1,5 @@
 -- Every limit of document 01, named once for the definitions.
-use Prim.Native.Nat.{ℕ, _^_}
+use Prim.Native.Nat.{ℕ}
 
 -- H, in ticks
 abbrev pub horizon : ℕ

@@ -1,34 +1,15 @@
 -- Beside the starred cases: the listing of S, the whole-job bound, and the errors that the spreadsheet taught.
 use mathlib.Core.Path.{_≡_, refl}
-use mathlib.Core.List.{List, [], _∷_, map}
-use lib.IntN.{ℤ, pos, negsuc}
-use Prim.Native.Nat.{ℕ}
+use mathlib.Core.List.{List, [], _∷_}
+use lib.IntN.{pos, negsuc}
 use Rattle.table.specs.Table.{Table}
-use Rattle.table.specs.Sample.{S, lone, plain, task, transaction, table}
+use Rattle.table.specs.Sample.{S, plain, task, transaction, table}
 use Rattle.periods.specs.Phase.{remainder}
 use Rattle.periods.specs.Charge.{imposed}
 use Rattle.analysis.specs.Charge.{greatest}
 use Rattle.analysis.specs.Bound.{lastJob, demand, busy}
 use Rattle.analysis.specs.Computing.{computing}
-use Rattle.worked.specs.Question.{
-  Question,
-  imposedAt,
-  releasedAt,
-  jobsIn,
-  responsesIn,
-  boundOf,
-  evaluationsOf,
-  cellsOf,
-  wholeBoundOf,
-  Line,
-  end,
-  jobNumbers,
-  responseOf,
-  threeCells,
-  given,
-  asked,
-  said,
-}
+use Rattle.worked.specs.Question.{imposedAt, releasedAt, responsesIn, boundOf, evaluationsOf, cellsOf, wholeBoundOf, Line, end, jobNumbers, responseOf, threeCells, given, asked, said}
 
 -- a task of offset 3 and C 1 under one of offset 0 and C 5
 abbrev pub behind : Table

@@ -1,16 +1,16 @@
 -- What a worked case asks of the definitions, as a list of signed numbers.
-use mathlib.Core.List.{List, [], _∷_, map, _++_}
+use mathlib.Core.List.{List, [], _∷_, map}
 use lib.IntN.{ℤ, pos, _-ℤ_}
 use Prim.Native.Nat.{ℕ}
 use Rattle.table.specs.Table.{Table, deadline}
 use Rattle.periods.specs.Phase.{phase, held}
 use Rattle.periods.specs.Charge.{imposed, released}
-use Rattle.analysis.specs.Bound.{firstJob, lastJob, jobsTo, demand, busy, response}
+use Rattle.analysis.specs.Bound.{lastJob, jobsTo, demand, busy, response}
 use Rattle.analysis.specs.Charge.{Later, phaseOf}
 use Rattle.analysis.specs.Order.{from}
 use Rattle.analysis.specs.Chain.{came, over}
 use Rattle.analysis.specs.Needed.{job, start}
-use Rattle.analysis.specs.Answer.{Answer, bound, overload, beyond, spent, Cells, cells}
+use Rattle.analysis.specs.Answer.{bound, Cells, cells}
 use Rattle.analysis.specs.Walk.{Stop, ended, short, chain, beyond?, never?, answer}
 
 pub data Question : Type 0 where

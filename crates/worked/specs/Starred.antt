@@ -1,33 +1,12 @@
 -- 'Checked by hand' of document 01: all cases marked * as one statement over one list.
 use mathlib.Core.Path.{_≡_, refl}
-use mathlib.Core.List.{List, [], _∷_, map}
-use lib.IntN.{ℤ, pos, negsuc}
+use mathlib.Core.List.{List, [], _∷_}
+use lib.IntN.{pos, negsuc}
 use Prim.Native.Nat.{ℕ}
 use Rattle.table.specs.Table.{Table}
 use Rattle.table.specs.Sample.{S, lone, plain, task, transaction, table}
 use Rattle.analysis.specs.Computing.{computing}
-use Rattle.worked.specs.Question.{
-  Question,
-  ownHeld,
-  phaseFrom,
-  imposedAt,
-  releasedAt,
-  phaseIn,
-  jobsIn,
-  responsesIn,
-  boundOf,
-  codeOf,
-  evaluationsOf,
-  cellsOf,
-  Line,
-  end,
-  jobNumbers,
-  responseOf,
-  threeCells,
-  given,
-  asked,
-  said,
-}
+use Rattle.worked.specs.Question.{ownHeld, phaseFrom, imposedAt, releasedAt, phaseIn, jobsIn, responsesIn, boundOf, codeOf, evaluationsOf, cellsOf, Line, end, jobNumbers, responseOf, threeCells, given, asked, said}
 
 -- One task, frame and T 10, C 2, J 12, D 20, rest 0
 abbrev pub delayed : Table

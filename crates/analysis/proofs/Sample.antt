@@ -1,0 +1,115 @@
+-- Each relation of the definitions at document 01's sample S: it holds of what is so, and fails of what is not. Task 2 is
+-- task 0 of transaction 1; its bound is 5, after 6 evaluations, and its whole-job bound is 7.
+use mathlib.Core.Path.{_≡_, refl}
+use mathlib.Core.Logic.{inl}
+use Prim.Native.Nat.{ℕ}
+use native.Mathlib.Omega.{arith}
+use lib.Dec.{lit<, lit≤}
+use Rattle.table.specs.Table.{IsTask}
+use Rattle.table.specs.Sample.{S, lone, plain}
+use Rattle.table.proofs.Kept.{S-kept}
+use Rattle.periods.specs.Charge.{imposed, released}
+use Rattle.analysis.specs.Rival.{Rival}
+use Rattle.analysis.specs.Bound.{Setting, Bound, BusyLength, busy}
+use Rattle.analysis.specs.Overload.{Overload}
+use Rattle.analysis.specs.Chain.{Chain, came, back, on}
+use Rattle.analysis.specs.Needed.{Beyond}
+use Rattle.analysis.specs.Answer.{bound, spent, Answers}
+use Rattle.analysis.specs.Promise.{Safe, Tight}
+use Rattle.analysis.specs.Computing.{computing}
+use Rattle.analysis.proofs.Chain.{chain-same}
+use Rattle.analysis.proofs.Turn.{busy-length}
+use Rattle.analysis.proofs.Charges.{imposed-fair, released-fair}
+use Rattle.analysis.proofs.Response.{bound-unique}
+use Rattle.analysis.proofs.Answer.{answers, answers-unique, answer-bound}
+use Rattle.analysis.proofs.Demand.{bound-safe}
+
+pub isTask-2 : IsTask S 1 0
+unfolding computing
+isTask-2 = record { owner = lit< tt; place = lit< tt }
+
+-- ---- rivals and settings
+
+-- task 1 is a rival of task 2, and task 2 is none of task 1
+rival-of-2 : Rival S 1 0 0 0 1
+unfolding computing
+rival-of-2 = record { other = λ b. omega (arith, b .0); urgent = lit≤ tt; runs = lit< tt }
+
+no-rival-of-1 : ¬ (Rival S 0 1 1 0 0)
+unfolding computing
+no-rival-of-1 r = omega (arith, r .urgent)
+
+setting-2 : Setting S 1 0 0 0
+unfolding computing
+setting-2 = record { mode = lit< tt; runs = lit< tt; place = lit< tt; candidate = inl refl }
+
+-- there is no second mode
+no-setting : ¬ (Setting S 1 0 1 0)
+unfolding computing
+no-setting s = omega (arith, s .mode)
+
+-- ---- overload
+
+no-overload : ¬ (Overload S 1 0)
+unfolding computing
+no-overload o = omega (arith, o)
+
+overload-of-11 : Overload (lone 10 (plain 0 11 1 10)) 0 0
+unfolding computing
+overload-of-11 = lit< tt
+
+-- ---- chains: the L chain of task 2 goes 1, 5, 7, 7
+
+busy-chain : Chain (busy S 1 0 0 0) Beyond 1 3 (came 7)
+unfolding computing
+busy-chain =
+    on {t = 1} (λ e. omega (arith, e)) (λ h. omega (arith, h))
+    (on {t = 5} (λ e. omega (arith, e)) (λ h. omega (arith, h)) (back {t = 7} refl))
+
+no-shorter-chain : ¬ (Chain (busy S 1 0 0 0) Beyond 1 2 (came 5))
+no-shorter-chain x =
+    let z : _≡_ {A = ℕ} 3 2 = chain-same busy-chain x .0 in
+    omega arith
+
+length-2 : BusyLength S 1 0 0 0 7
+length-2 = busy-length S-kept isTask-2 setting-2 busy-chain
+
+-- ---- answers
+
+pub answers-2 : Answers S 1 0 6 (bound 5 6)
+unfolding computing
+answers-2 = answers S-kept isTask-2 6
+
+pub answers-2-short : Answers S 1 0 5 (spent 5)
+unfolding computing
+answers-2-short = answers S-kept isTask-2 5
+
+no-other-answer : ¬ (Answers S 1 0 6 (bound 4 6))
+no-other-answer x =
+    let e : bound 5 6 ≡ bound 4 6 = answers-unique S-kept isTask-2 answers-2 x in
+    let z : _≡_ {A = ℕ} 5 4 = cc in
+    omega arith
+
+-- ---- bounds
+
+pub bound-2 : Bound imposed S 1 0 5
+unfolding computing
+bound-2 = answer-bound S-kept isTask-2 imposed-fair 6 refl
+
+pub whole-bound-2 : Bound released S 1 0 7
+unfolding computing
+whole-bound-2 = answer-bound S-kept isTask-2 released-fair 6 refl
+
+not-bound-4 : ¬ (Bound imposed S 1 0 4)
+not-bound-4 b = omega (arith, bound-unique S-kept isTask-2 bound-2 b)
+
+-- ---- demand 3
+
+safe-5 : Safe S 1 0 5
+safe-5 = bound-safe S-kept isTask-2 bound-2
+
+tight-5 : Tight S 1 0 5
+tight-5 = record { whole = 7; isBound = whole-bound-2; tight = lit≤ tt }
+
+not-tight-8 : ¬ (Tight S 1 0 8)
+not-tight-8 t = omega (arith, t .tight, bound-unique S-kept isTask-2 whole-bound-2 (t .isBound))
