@@ -10,18 +10,19 @@ use Rattle.table.specs.Sample.{S, lone, plain}
 use Rattle.table.proofs.Kept.{S-kept}
 use Rattle.periods.specs.Charge.{imposed, released}
 use Rattle.analysis.specs.Rival.{Rival}
-use Rattle.analysis.specs.Bound.{Setting, Bound, BusyLength, busy}
+use Rattle.analysis.specs.Bound.{Setting, Bound, BusyLength, Completion, demand, busy}
 use Rattle.analysis.specs.Overload.{Overload}
 use Rattle.analysis.specs.Chain.{Chain, came, back, on}
-use Rattle.analysis.specs.Needed.{Beyond}
+use Rattle.analysis.specs.Needed.{Beyond, Never, job, start, JobChains, one, Needed, bounded, turn}
+use Rattle.analysis.specs.Order.{walkOrder}
 use Rattle.analysis.specs.Answer.{bound, spent, Answers}
 use Rattle.analysis.specs.Promise.{Safe, Tight}
 use Rattle.analysis.specs.Computing.{computing}
 use Rattle.analysis.proofs.Chain.{chain-same}
-use Rattle.analysis.proofs.Turn.{busy-length}
+use Rattle.analysis.proofs.Turn.{busy-length, job-completion}
 use Rattle.analysis.proofs.Charges.{imposed-fair, released-fair}
 use Rattle.analysis.proofs.Response.{bound-unique}
-use Rattle.analysis.proofs.Answer.{answers, answers-unique, answer-bound}
+use Rattle.analysis.proofs.Answer.{answers, answers-unique, answer-bound, needed-unique}
 use Rattle.analysis.proofs.Demand.{bound-safe}
 
 pub isTask-2 : IsTask S 1 0
@@ -73,6 +74,34 @@ no-shorter-chain x =
 
 length-2 : BusyLength S 1 0 0 0 7
 length-2 = busy-length S-kept isTask-2 setting-2 busy-chain
+
+not-length-8 : ¬ (BusyLength S 1 0 0 0 8)
+not-length-8 l = omega (arith, l .least 7 (length-2 .has))
+
+-- its one job goes 2, 4, 5, 5
+
+job-chain : Chain (demand imposed S 1 0 0 0 (job S 1 0 0 0)) Never (start S 1 0 0 0 (job S 1 0 0 0)) 3 (came 5)
+unfolding computing
+job-chain =
+    on {t = 2} (λ e. omega (arith, e)) (λ h. h)
+    (on {t = 4} (λ e. omega (arith, e)) (λ h. h) (back {t = 5} refl))
+
+completion-2 : Completion imposed S 1 0 0 0 (job S 1 0 0 0) 5
+completion-2 = job-completion S-kept isTask-2 imposed-fair 0 0 (job S 1 0 0 0) job-chain
+
+not-completion-6 : ¬ (Completion imposed S 1 0 0 0 (job S 1 0 0 0) 6)
+not-completion-6 w = omega (arith, w .least 5 (completion-2 .has))
+
+-- 3 evaluations for the length and 3 for the job
+
+needed-2 : Needed S 1 0 (walkOrder S 1 0) 6 bounded
+unfolding computing
+needed-2 = turn busy-chain (one JobChains.none job-chain) Needed.none
+
+not-needed-5 : ¬ (Needed S 1 0 (walkOrder S 1 0) 5 bounded)
+not-needed-5 x =
+    let z : _≡_ {A = ℕ} 6 5 = needed-unique needed-2 x .0 in
+    omega arith
 
 -- ---- answers
 
