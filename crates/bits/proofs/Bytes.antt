@@ -1,0 +1,42 @@
+-- Bits and bytes: a byte is the number that its eight bits say, and a number that is 0 has bits that are 0.
+use mathlib.Core.Path.{_≡_, refl, sym, ap, _∙_}
+use mathlib.Core.List.{List}
+use Prim.Native.Nat.{ℕ, zero, suc, _+_, _-_, _*_, _/_, _%_, _^_, _≤_, _<_}
+use native.Mathlib.Nat.{div-eq-of-lt, div-one}
+use native.Mathlib.Decide.{ℕ-discrete}
+use native.Mathlib.Omega.{arith}
+use lib.ListN.{getD}
+use lib.Pow.{shr-shr}
+use Rattle.bits.specs.Bits.{bitAt, valueAt}
+use Rattle.bits.proofs.Fields.{bit-below}
+
+pub zero-bits : (image : List ℕ) (p w : ℕ) → valueAt image p w ≡ 0 → (k : ℕ) → k < w → bitAt image (p + k) ≡ 0
+unfolding valueAt
+zero-bits image p zero h k below = absurd (omega arith)
+zero-bits image p (suc w) h k below =
+    elim (ℕ-discrete k w) [
+      | yes e ↦ rw e (omega arith)
+      | no ne ↦ zero-bits image p w (omega arith) k (omega arith)
+    ]
+
+-- bit k of byte i
+bit-of : (image : List ℕ) (i k : ℕ) → k < 8 → bitAt image (8 * i + k) ≡ getD image i 0 / 2 ^ (7 - k) % 2
+unfolding bitAt
+bit-of image i k h =
+    let byte : (8 * i + k) / 8 ≡ i = omega arith in
+    let place : (8 * i + k) % 8 ≡ k = omega arith in
+    rw (byte, place)
+
+-- the first k bits of byte i
+prefix : (image : List ℕ) (i k : ℕ) → getD image i 0 < 256 → k ≤ 8 → valueAt image (8 * i) k ≡ getD image i 0 / 2 ^ (8 - k)
+unfolding valueAt
+prefix image i zero h within = sym (div-eq-of-lt h)
+prefix image i (suc k) h within =
+    let x : ℕ = getD image i 0 / 2 ^ (7 - k) in
+    let down : 8 - suc k ≡ 7 - k = omega arith in
+    let up : 8 - k ≡ 7 - k + 1 = omega arith in
+    let half : getD image i 0 / 2 ^ (8 - k) ≡ x / 2 = rw up (sym (shr-shr (getD image i 0) (7 - k) 1)) in
+    rw (down, prefix image i k h (omega arith), half, bit-of image i k (omega arith)) (omega arith)
+
+pub byte-value : (image : List ℕ) (i : ℕ) → getD image i 0 < 256 → valueAt image (8 * i) 8 ≡ getD image i 0
+byte-value image i h = prefix image i 8 h (omega arith) ∙ div-one (getD image i 0)

@@ -1,0 +1,42 @@
+-- Worked fields of document 01's last image: the most significant bit comes first, a field may begin and end inside a
+-- byte, and each answer that is no number.
+use mathlib.Core.Path.{_≡_, refl}
+use mathlib.Core.List.{List, [], _∷_}
+use Prim.Native.Nat.{ℕ}
+use Rattle.bits.specs.Bits.{bitAt, valueAt, fieldAt}
+use Rattle.bits.specs.declared.Field.the-variants.{Holds, Ends, NoWidth}
+
+abbrev start : List ℕ
+start = 0x10 ∷ 0x00 ∷ 0x00 ∷ 0xA0 ∷ 0x40 ∷ []
+
+edition : valueAt start 0 4 ≡ 1
+unfolding valueAt bitAt
+edition = refl
+
+frame : valueAt start 4 24 ≡ 10
+unfolding valueAt bitAt
+frame = refl
+
+transactions : fieldAt start 28 6 ≡ Holds 1
+unfolding fieldAt valueAt bitAt
+transactions = refl
+
+to-the-end : fieldAt start 8 32 ≡ Holds 0xA040
+unfolding fieldAt valueAt bitAt
+to-the-end = refl
+
+one-bit-more : fieldAt start 9 32 ≡ Ends
+unfolding fieldAt valueAt bitAt
+one-bit-more = refl
+
+behind-the-end : fieldAt [] 0 1 ≡ Ends
+unfolding fieldAt valueAt bitAt
+behind-the-end = refl
+
+too-wide : fieldAt start 0 33 ≡ NoWidth
+unfolding fieldAt valueAt bitAt
+too-wide = refl
+
+no-bits : fieldAt start 0 0 ≡ NoWidth
+unfolding fieldAt valueAt bitAt
+no-bits = refl

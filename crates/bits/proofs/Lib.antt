@@ -1,0 +1,4 @@
+pub mod Tests
+pub mod Fields
+pub mod Bytes
+pub mod Cases

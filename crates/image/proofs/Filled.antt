@@ -1,0 +1,115 @@
+-- What the fill leaves, group by group, is the row of the table that the image says.
+use mathlib.Core.Path.{_≡_, refl, sym, ap, _∙_}
+use mathlib.Core.List.{List, [], _∷_, _++_}
+use Prim.Native.Nat.{ℕ, _+_, _*_, _≤_, _<_}
+use native.Mathlib.Omega.{arith}
+use lib.ListN.{length, length-append}
+use lib.Seq.{sets}
+use Rattle.table.specs.Table.{Table, transactions, transaction, tasks, task}
+use Rattle.table.specs.Number.{before, inAll}
+use Rattle.image.specs.Lists.{joined, padded}
+use Rattle.image.specs.Places.{start}
+use Rattle.image.specs.Said.{editionIn, frameIn, countIn, tasksIn, tableIn, tasksBefore}
+use Rattle.image.specs.Row.{
+  headerCells,
+  transactionCells,
+  taskCells,
+  tasksCell,
+  rowCells,
+  ofTransaction,
+  ofTask,
+  ofHeader,
+  rowOf,
+  emptyRow,
+}
+use Rattle.image.specs.Fill.{tasksCells, headsIn, ofTasksIn, everyTaskIn}
+use Rattle.image.specs.Read.{IsAccepted}
+use Rattle.image.proofs.Lists.{joined-same, length-padded, padded-again, sets-padded}
+use Rattle.image.proofs.Accepted.{header, few-tasks}
+use Rattle.image.proofs.Cells.{length-heads, length-every}
+use Rattle.image.proofs.Said.{
+  said-edition,
+  said-frame,
+  said-transactions,
+  said-transaction,
+  said-tasks,
+  said-task,
+  said-before,
+  said-in-all,
+}
+
+-- a header of zeros
+abbrev blank : List ℕ
+blank = 0 ∷ 0 ∷ 0 ∷ 0 ∷ []
+
+blank-row : emptyRow ≡ padded rowCells blank
+unfolding padded
+blank-row = refl
+
+header-last :
+    (e f n t : ℕ) (xs ys : List ℕ)
+    → sets (padded rowCells (padded tasksCell (blank ++ xs) ++ ys)) 0 (e ∷ f ∷ n ∷ t ∷ [])
+    ≡ padded rowCells (padded tasksCell ((e ∷ f ∷ n ∷ t ∷ []) ++ xs) ++ ys)
+unfolding padded
+header-last e f n t xs ys = refl
+
+-- a row of zeros with transactions and tasks put in, and the header last
+row-filled :
+    (e f n t : ℕ) (xs ys : List ℕ)
+    → length xs ≤ 128
+    → length ys ≤ 896
+    → sets (sets (sets emptyRow headerCells xs) tasksCell ys) 0 (e ∷ f ∷ n ∷ t ∷ [])
+    ≡ padded rowCells (padded tasksCell ((e ∷ f ∷ n ∷ t ∷ []) ++ xs) ++ ys)
+row-filled e f n t xs ys short few =
+    let front = padded tasksCell (blank ++ xs) in
+    let wide : length front ≡ tasksCell = length-padded tasksCell (blank ++ xs) (omega arith) in
+    let one : sets emptyRow headerCells xs ≡ padded rowCells (blank ++ xs) =
+    rw blank-row (sets-padded rowCells blank xs (omega arith)) in
+    let two : padded rowCells (blank ++ xs) ≡ padded rowCells front =
+    sym (padded-again rowCells tasksCell (blank ++ xs) (omega arith) (omega arith)) in
+    let three : sets (padded rowCells front) tasksCell ys ≡ padded rowCells (front ++ ys) =
+    rw wide at (sets-padded rowCells front ys (omega arith)) in
+    rw (one, two, three) (header-last e f n t xs ys)
+
+module _ (image : List ℕ) where
+  abbrev tab : Table
+  tab = tableIn image
+
+  said-heads : headsIn image (countIn image) ≡ joined (transactions tab) (λ u. ofTransaction (before tab u) (transaction tab u))
+  unfolding headsIn
+  said-heads =
+      rw (said-transactions image)
+      (joined-same (countIn image) _ _
+      (λ u below. rw (said-before image u (omega arith), said-transaction image u below)))
+
+  said-tasks-of : (u : ℕ) → u < countIn image → ofTasksIn image (start image u) u ≡ joined (tasks tab u) (λ j. ofTask u (task tab u j))
+  unfolding ofTasksIn tasksCells
+  said-tasks-of u below =
+      rw (said-tasks image u below)
+      (joined-same (tasksIn image (start image u)) _ _ (λ j within. rw (said-task image u j below within)))
+
+  said-every : everyTaskIn image (countIn image) ≡ joined (transactions tab) (λ u. joined (tasks tab u) (λ j. ofTask u (task tab u j)))
+  unfolding everyTaskIn
+  said-every = rw (said-transactions image) (joined-same (countIn image) _ _ said-tasks-of)
+
+  said-header : ofHeader tab ≡ editionIn image ∷ frameIn image ∷ countIn image ∷ tasksBefore image (countIn image) ∷ []
+  unfolding ofHeader
+  said-header = cc (said-edition image, said-frame image, said-transactions image, said-in-all image)
+
+  pub filled :
+      IsAccepted image
+      → sets (sets (sets emptyRow headerCells (headsIn image (countIn image))) tasksCell (everyTaskIn image (countIn image))) 0
+      (editionIn image ∷ frameIn image ∷ countIn image ∷ tasksBefore image (countIn image) ∷ [])
+      ≡ rowOf tab
+  unfolding rowOf
+  filled ok =
+      let heads : length (headsIn image (countIn image)) ≤ 128 =
+      rw (length-heads image (countIn image)) (omega (arith, header image ok .few)) in
+      let every : length (everyTaskIn image (countIn image)) ≤ 896 =
+      rw (length-every image (countIn image)) (omega (arith, few-tasks image ok)) in
+      row-filled (editionIn image) (frameIn image) (countIn image) (tasksBefore image (countIn image))
+      (headsIn image (countIn image))
+      (everyTaskIn image (countIn image))
+      heads
+      every
+      ∙ rw (said-heads, said-every, said-header)

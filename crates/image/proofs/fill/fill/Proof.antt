@@ -1,0 +1,62 @@
+-- `fill::fill` meets its contract: what the groups leave is the row of the table (`Filled`).
+use denote.Ref.{now}
+use Rattle.image.proofs.Filled.{filled}
+use borrow.Author.Needs.{needs}
+use Rattle.image.proofs.fill.fill.Statement.{statement}
+use Rattle.image.proofs.fill.fill.Tie as tie
+
+value-requires : tie.Need-value-requires
+value-requires c κs = search needs
+
+value-requires-2 : tie.Need-value-requires-2
+value-requires-2 c κs = search needs
+
+value-requires-3 : tie.Need-value-requires-3
+value-requires-3 c κs = search needs
+
+put-heads-requires : tie.Need-put-heads-requires
+put-heads-requires c κs = search needs
+
+put-every-task-requires : tie.Need-put-every-task-requires
+put-every-task-requires c κs = search needs
+
+element-write-cells : tie.Need-element-write-cells
+element-write-cells c = search needs
+
+element-write-cells-2 : tie.Need-element-write-cells-2
+element-write-cells-2 c = search needs
+
+element-write-cells-3 : tie.Need-element-write-cells-3
+element-write-cells-3 c = search needs
+
+element-write-cells-4 : tie.Need-element-write-cells-4
+element-write-cells-4 c = search needs
+
+returns : tie.Need-returns
+returns c =
+    let image = now (c .before .before .before .before .before .before .before .before .args .image) in
+    rw (
+      c .put-every-task .ensures,
+      c .before .before .put-heads .ensures .1,
+      c .before .before .put-heads .ensures .0,
+      c .before .before .before .before .value3 .ensures,
+      c .before .before .before .before .before .value2 .ensures,
+      c .before .before .before .before .before .before .value .ensures,
+      c .before .before .before .before .before .before .before .before .pre .1,
+    )
+    (filled image (c .before .before .before .before .before .before .before .before .pre .0))
+
+pub fill-spec : {M : Type 1} → statement M
+fill-spec =
+    tie.close
+    (tie.spec
+    value-requires
+    value-requires-2
+    value-requires-3
+    put-heads-requires
+    put-every-task-requires
+    element-write-cells
+    element-write-cells-2
+    element-write-cells-3
+    element-write-cells-4
+    returns)

@@ -1,0 +1,52 @@
+-- `read` meets its contract: the row is filled where the image is accepted, and is the empty row elsewhere.
+use native.Mathlib.Omega.{arith}
+use mathlib.Core.Path.{_≡_, refl, sym, ap, _∙_}
+use mathlib.Core.Bool.{Bool, true, false}
+use mathlib.Core.List.{List}
+use Prim.Native.Nat.{ℕ}
+use denote.Ref.{now}
+use Rattle.image.specs.declared.answer.Answer.{Answer}
+use Rattle.image.specs.declared.answer.Answer.the-variants.{Accepted, Refused}
+use Rattle.image.specs.Answer.{isAccepted}
+use Rattle.image.specs.Lists.{padded}
+use Rattle.image.specs.Fault.{imageFault}
+use Rattle.image.specs.Row.{emptyRow}
+use Rattle.image.specs.Read.{IsAccepted, rowFor}
+use Rattle.image.proofs.Findings.{accepted-is}
+use borrow.Author.Needs.{needs}
+use Rattle.image.proofs.read.Statement.{statement}
+use Rattle.image.proofs.read.Tie as tie
+
+accepted : (c : tie.Then1) → IsAccepted (now (c .before .before .before .before .args .image))
+accepted c =
+    sym (c .before .before .first-fault .ensures)
+    ∙ accepted-is (c .before .before .first-fault .result) (sym (c .before .is-accepted .ensures) ∙ c .if1 .taken)
+
+row-refused : (a : Answer) (image : List ℕ) → isAccepted a ≡ false → rowFor a image ≡ emptyRow
+row-refused Accepted image h = let z : _≡_ {A = ℕ} 0 1 = cc in absurd (omega arith)
+row-refused (Refused r at) image h = refl
+
+first-fault-requires : tie.Need-first-fault-requires
+first-fault-requires c κs = search needs
+
+is-accepted-requires : tie.Need-is-accepted-requires
+is-accepted-requires c κs = search needs
+
+fill-requires : tie.Need-fill-requires
+unfolding padded
+fill-requires c κs = (accepted (c .before), refl)
+
+returns : tie.Need-returns
+returns c = (c .before .before .before .before .first-fault .ensures, rw (accepted (c .before .before)) (c .fill .ensures))
+
+returns-2 : tie.Need-returns-2
+unfolding padded
+returns-2 c = (
+  c .before .before .first-fault .ensures,
+  sym (row-refused (imageFault (now (c .before .before .before .before .args .image))) _
+      (ap isAccepted (sym (c .before .before .first-fault .ensures)) ∙ sym (c .before .is-accepted .ensures) ∙ c .if1 .left)),
+)
+
+pub read-spec : {M : Type 1} → statement M
+read-spec =
+    tie.close (tie.spec first-fault-requires is-accepted-requires fill-requires returns returns-2)

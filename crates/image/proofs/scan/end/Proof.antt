@@ -1,0 +1,53 @@
+-- `scan::end` meets its contract: padding is at most seven bits.
+use mathlib.Core.Path.{_≡_}
+use Prim.Native.Nat.{ℕ, _+_, _-_, _*_, _/_, min}
+use native.Mathlib.Omega.{arith}
+use Rattle.bits.specs.Bits.{widest}
+use Rattle.image.specs.Fault.{endFault}
+use Rattle.image.specs.Places.{bytesTo}
+use borrow.Author.Needs.{needs}
+use Rattle.image.proofs.scan.end.Statement.{statement}
+use Rattle.image.proofs.scan.end.Tie as tie
+
+-- padding is at most seven bits
+few : (p : ℕ) → min (8 * bytesTo p - p) widest ≡ 8 * bytesTo p - p
+few p = omega arith
+
+add-bytes : tie.Need-add-bytes
+add-bytes c = search needs
+
+mul-next : tie.Need-mul-next
+mul-next c = search needs
+
+sub-value : tie.Need-sub-value
+sub-value c = search needs
+
+value-requires : tie.Need-value-requires
+value-requires c κs = search needs
+
+check-requires : tie.Need-check-requires
+check-requires c κs = search needs
+
+check-requires-2 : tie.Need-check-requires-2
+check-requires-2 c κs = search needs
+
+then-requires : tie.Need-then-requires
+then-requires c κs = search needs
+
+returns : tie.Need-returns
+unfolding endFault
+returns c =
+    rw (c .then .ensures, c .before .check2 .ensures, c .before .before .check .ensures, c .before .before .before .value .ensures, few (c .before .before .before .before .before .args .at))
+
+pub end-spec : {M : Type 1} → statement M
+end-spec =
+    tie.close
+    (tie.spec
+    add-bytes
+    mul-next
+    sub-value
+    value-requires
+    check-requires
+    check-requires-2
+    then-requires
+    returns)

@@ -1,0 +1,80 @@
+-- `scan::header` meets its contract: one chain of checks, rewritten by what each call ensures, the last first.
+use Rattle.image.specs.Fault.{headerFault}
+use borrow.Author.Needs.{needs}
+use Rattle.image.proofs.scan.header.Statement.{statement}
+use Rattle.image.proofs.scan.header.Tie as tie
+
+value-requires : tie.Need-value-requires
+value-requires c κs = search needs
+
+value-requires-2 : tie.Need-value-requires-2
+value-requires-2 c κs = search needs
+
+value-requires-3 : tie.Need-value-requires-3
+value-requires-3 c κs = search needs
+
+cast-count : tie.Need-cast-count
+cast-count c = search needs
+
+ends-requires : tie.Need-ends-requires
+ends-requires c κs = search needs
+
+check-requires : tie.Need-check-requires
+check-requires c κs = search needs
+
+then-requires : tie.Need-then-requires
+then-requires c κs = search needs
+
+ends-requires-2 : tie.Need-ends-requires-2
+ends-requires-2 c κs = search needs
+
+then-requires-2 : tie.Need-then-requires-2
+then-requires-2 c κs = search needs
+
+check-requires-2 : tie.Need-check-requires-2
+check-requires-2 c κs = search needs
+
+then-requires-3 : tie.Need-then-requires-3
+then-requires-3 c κs = search needs
+
+ends-requires-3 : tie.Need-ends-requires-3
+ends-requires-3 c κs = search needs
+
+then-requires-4 : tie.Need-then-requires-4
+then-requires-4 c κs = search needs
+
+between-requires : tie.Need-between-requires
+between-requires c κs = search needs
+
+check-requires-3 : tie.Need-check-requires-3
+check-requires-3 c κs = search needs
+
+then-requires-5 : tie.Need-then-requires-5
+then-requires-5 c κs = search needs
+
+returns : tie.Need-returns
+unfolding headerFault
+returns c =
+    rw (c .then5 .ensures, c .before .check3 .ensures, c .before .before .between .ensures, c .before .before .before .then4 .ensures, c .before .before .before .before .ends3 .ensures, c .before .before .before .before .before .then3 .ensures, c .before .before .before .before .before .before .check2 .ensures, c .before .before .before .before .before .before .before .then2 .ensures, c .before .before .before .before .before .before .before .before .ends2 .ensures, c .before .before .before .before .before .before .before .before .before .then .ensures, c .before .before .before .before .before .before .before .before .before .before .check .ensures, c .before .before .before .before .before .before .before .before .before .before .before .ends .ensures, c .before .before .before .before .before .before .before .before .before .before .before .before .value3 .ensures, c .before .before .before .before .before .before .before .before .before .before .before .before .before .value2 .ensures, c .before .before .before .before .before .before .before .before .before .before .before .before .before .before .value .ensures)
+
+pub header-spec : {M : Type 1} → statement M
+header-spec =
+    tie.close
+    (tie.spec
+    value-requires
+    value-requires-2
+    value-requires-3
+    cast-count
+    ends-requires
+    check-requires
+    then-requires
+    ends-requires-2
+    then-requires-2
+    check-requires-2
+    then-requires-3
+    ends-requires-3
+    then-requires-4
+    between-requires
+    check-requires-3
+    then-requires-5
+    returns)

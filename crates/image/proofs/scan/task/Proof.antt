@@ -1,0 +1,105 @@
+-- `scan::task` meets its contract: one chain of checks, rewritten by what each call ensures, the last first.
+use native.Mathlib.Omega.{arith}
+use Rattle.image.specs.Fault.{taskFault}
+use borrow.Author.Needs.{needs}
+use Rattle.image.proofs.scan.task.Statement.{statement}
+use Rattle.image.proofs.scan.task.Tie as tie
+
+add-jitter : tie.Need-add-jitter
+add-jitter c = search needs
+
+add-blocking : tie.Need-add-blocking
+add-blocking c = search needs
+
+add-deadline : tie.Need-add-deadline
+add-deadline c = search needs
+
+add-priority : tie.Need-add-priority
+add-priority c = search needs
+
+add-times : tie.Need-add-times
+add-times c = search needs
+
+at-requires : tie.Need-at-requires
+at-requires c κs = search needs
+
+ends-requires : tie.Need-ends-requires
+ends-requires c κs = search needs
+
+ends-requires-2 : tie.Need-ends-requires-2
+ends-requires-2 c κs = search needs
+
+then-requires : tie.Need-then-requires
+then-requires c κs = search needs
+
+ends-requires-3 : tie.Need-ends-requires-3
+ends-requires-3 c κs = search needs
+
+then-requires-2 : tie.Need-then-requires-2
+then-requires-2 c κs = search needs
+
+ends-requires-4 : tie.Need-ends-requires-4
+ends-requires-4 c κs = search needs
+
+then-requires-3 : tie.Need-then-requires-3
+then-requires-3 c κs = search needs
+
+check-requires : tie.Need-check-requires
+check-requires c κs = search needs
+
+then-requires-4 : tie.Need-then-requires-4
+then-requires-4 c κs = search needs
+
+ends-requires-5 : tie.Need-ends-requires-5
+ends-requires-5 c κs = search needs
+
+then-requires-5 : tie.Need-then-requires-5
+then-requires-5 c κs = search needs
+
+times-end-requires : tie.Need-times-end-requires
+times-end-requires c κs = omega (arith, c .before .before .before .before .before .before .before .before .before .before .before .before .before .before .pre)
+
+then-requires-6 : tie.Need-then-requires-6
+then-requires-6 c κs = search needs
+
+times-sum-requires : tie.Need-times-sum-requires
+times-sum-requires c κs = omega (arith, c .before .before .before .before .before .before .before .before .before .before .before .before .before .before .before .before .pre)
+
+check-requires-2 : tie.Need-check-requires-2
+check-requires-2 c κs = search needs
+
+then-requires-7 : tie.Need-then-requires-7
+then-requires-7 c κs = search needs
+
+returns : tie.Need-returns
+unfolding taskFault
+returns c =
+    rw (c .then7 .ensures, c .before .check2 .ensures, c .before .before .times-sum .ensures, c .before .before .before .then6 .ensures, c .before .before .before .before .times-end .ensures, c .before .before .before .before .before .then5 .ensures, c .before .before .before .before .before .before .ends5 .ensures, c .before .before .before .before .before .before .before .then4 .ensures, c .before .before .before .before .before .before .before .before .check .ensures, c .before .before .before .before .before .before .before .before .before .before .then3 .ensures, c .before .before .before .before .before .before .before .before .before .before .before .ends4 .ensures, c .before .before .before .before .before .before .before .before .before .before .before .before .then2 .ensures, c .before .before .before .before .before .before .before .before .before .before .before .before .before .ends3 .ensures, c .before .before .before .before .before .before .before .before .before .before .before .before .before .before .then .ensures, c .before .before .before .before .before .before .before .before .before .before .before .before .before .before .before .ends2 .ensures, c .before .before .before .before .before .before .before .before .before .before .before .before .before .before .before .before .ends .ensures, c .before .before .before .before .before .before .before .before .before .before .before .before .before .before .before .before .before .at .ensures)
+
+pub task-spec : {M : Type 1} → statement M
+task-spec =
+    tie.close
+    (tie.spec
+    add-jitter
+    add-blocking
+    add-deadline
+    add-priority
+    add-times
+    at-requires
+    ends-requires
+    ends-requires-2
+    then-requires
+    ends-requires-3
+    then-requires-2
+    ends-requires-4
+    then-requires-3
+    check-requires
+    then-requires-4
+    ends-requires-5
+    then-requires-5
+    times-end-requires
+    then-requires-6
+    times-sum-requires
+    check-requires-2
+    then-requires-7
+    returns)

@@ -1,0 +1,56 @@
+-- `scan::transaction` meets its contract: its tasks are looked at where its head is sound.
+use Rattle.image.specs.Answer.{_then_}
+use mathlib.Core.Path.{_≡_, sym, _∙_}
+use mathlib.Core.List.{List}
+use Prim.Native.Nat.{ℕ}
+use native.Mathlib.Omega.{arith}
+use denote.Ref.{now}
+use Rattle.image.specs.Fault.{transactionFault}
+use Rattle.image.proofs.Findings.{accepted-is, refused-then}
+use Rattle.image.proofs.Places.{modes-small, tasks-small}
+use borrow.Author.Needs.{needs}
+use Rattle.image.proofs.scan.transaction.Statement.{statement}
+use Rattle.image.proofs.scan.transaction.Tie as tie
+
+abbrev image : tie.After-at → List ℕ
+image c = now (c .before .before .before .before .before .args .image)
+
+abbrev place : tie.After-at → ℕ
+place c = c .before .before .before .before .before .args .at
+
+head-requires : tie.Need-head-requires
+head-requires c κs = search needs
+
+is-accepted-requires : tie.Need-is-accepted-requires
+is-accepted-requires c κs = search needs
+
+at-requires : tie.Need-at-requires
+at-requires c κs = search needs
+
+add-tasks : tie.Need-add-tasks
+add-tasks c = search needs
+
+tasks-requires : tie.Need-tasks-requires
+tasks-requires c κs = rw (c .at .ensures) (omega (arith, modes-small (image c) (place c), tasks-small (image c) (place c)))
+
+returns : tie.Need-returns
+unfolding transactionFault _then_
+returns c =
+    rw (← c .before .before .before .before .head .ensures, accepted-is (c .before .before .before .before .head .result) (sym (c .before .before .before .is-accepted .ensures) ∙ c .before .before .if1 .taken), c .tasks .ensures, c .before .at .ensures)
+
+returns-2 : tie.Need-returns-2
+unfolding transactionFault
+returns-2 c =
+    rw (← c .before .before .head .ensures) (sym (refused-then (c .before .before .head .result) _ (sym (c .before .is-accepted .ensures) ∙ c .if1 .left)))
+
+pub transaction-spec : {M : Type 1} → statement M
+transaction-spec =
+    tie.close
+    (tie.spec
+    head-requires
+    is-accepted-requires
+    at-requires
+    add-tasks
+    tasks-requires
+    returns
+    returns-2)

@@ -1,0 +1,23 @@
+-- The cells of an image's transactions and tasks, by their places in the image: what the fill writes, group by group.
+use mathlib.Core.List.{List}
+use Prim.Native.Nat.{ℕ, _+_, _*_}
+use Rattle.image.specs.Lists.{joined}
+use Rattle.image.specs.Places.{headWidth, taskWidth, start}
+use Rattle.image.specs.Said.{modesIn, tasksIn, taskIn, transactionIn, tasksBefore}
+use Rattle.image.specs.Row.{ofTransaction, ofTask}
+
+-- n tasks of transaction u, of m modes each, the first at q
+unfoldable pub tasksCells : List ℕ → ℕ → ℕ → ℕ → ℕ → List ℕ
+tasksCells image m q u n = joined n (λ j. ofTask u (taskIn image m (q + j * taskWidth m)))
+
+-- the first n transactions but their tasks
+unfoldable pub headsIn : List ℕ → ℕ → List ℕ
+headsIn image n = joined n (λ u. ofTransaction (tasksBefore image u) (transactionIn image (start image u)))
+
+-- the tasks of the transaction u, which starts at p
+unfoldable pub ofTasksIn : List ℕ → ℕ → ℕ → List ℕ
+ofTasksIn image p u = tasksCells image (modesIn image p) (p + headWidth) u (tasksIn image p)
+
+-- the tasks of the first n transactions
+unfoldable pub everyTaskIn : List ℕ → ℕ → List ℕ
+everyTaskIn image n = joined n (λ u. ofTasksIn image (start image u) u)

@@ -1,0 +1,39 @@
+// Reading an image: any bytes give a table or a refusal, by document 01's number and place. It knows bits, places and
+// the limits of a table; it knows nothing of interference, of bounds or of what a table is read for.
+ghost use mathlib.Core.Path.{_≡_};
+ghost use Rattle.image.specs.Fault.{imageFault};
+ghost use Rattle.image.specs.Read.{rowFor};
+
+mod answer;
+mod fill;
+mod kinds;
+mod scan;
+mod view;
+
+pub use answer::Answer;
+pub use answer::Refusal;
+pub use kinds::Table;
+pub use kinds::Task;
+pub use kinds::Transaction;
+
+// What is said of an image, and beside it the table: the empty one where the image is refused.
+pub struct Reading {
+    pub answer: Answer,
+    pub table: Table,
+}
+
+pub fn read(image: &[u8]) -> Reading
+    ensures answer { λ r. ⌜ r .answer ≡ imageFault (now (image .entry)) ⌝ }
+    ensures table { λ r. ⌜ r .table .cells ≡ rowFor (imageFault (now (image .entry))) (now (image .entry)) ⌝ }
+{
+    let answer = scan::first_fault(image);
+    let mut cells = [0u32; Table::CELLS];
+    let sound = answer.is_accepted();
+    if sound {
+        fill::fill(image, &mut cells);
+    }
+    Reading {
+        answer,
+        table: Table { cells },
+    }
+}

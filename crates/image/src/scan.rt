@@ -1,0 +1,248 @@
+// The first fault of an image, front to back. Reading a field is total, so each check reads its field whether the image
+// holds it or not: that it does is a check of its own that stands before, and what is read past a fault cannot show.
+use super::answer::Answer;
+use super::answer::Refusal;
+use super::answer::check;
+use super::kinds::Table;
+use super::kinds::Task;
+use super::kinds::Transaction;
+ghost use mathlib.Core.Path.{_≡_};
+ghost use mathlib.Core.Bool.{_&&_};
+ghost use Prim.Native.Nat.{_+_, _*_, _^_, _<_, _≤_};
+ghost use lib.Dec.{leb};
+ghost use Rattle.table.specs.Sum.{sum};
+ghost use Rattle.table.specs.Limits.{timeWidth, tasksMost, tasksInAll};
+ghost use Rattle.image.specs.Answer.{firstOf};
+ghost use Rattle.bits.specs.Bits.{valueAt};
+ghost use Rattle.image.specs.Places.{taskWidth, past};
+ghost use Rattle.image.specs.Fault.{endsAt, isBetween, isDivisor, headerFault, taskFault, headFault, transactionFault, endFault, bodyFault, imageFault};
+
+// The image ends inside a field.
+fn ends(image: &[u8], at: usize, width: usize) -> Answer
+    ensures { λ r. ⌜ r ≡ endsAt (now (image .entry)) at width ⌝ }
+{
+    check(bits::inside(image, at, width), Refusal::EndsInside, at)
+}
+
+fn between(least: usize, most: usize, n: usize) -> bool
+    ensures { λ r. ⌜ r ≡ isBetween least most n ⌝ }
+{
+    if n < least {
+        return false;
+    }
+    n <= most
+}
+
+fn divides(frame: u32, period: u32) -> bool
+    ensures { λ r. ⌜ r ≡ isDivisor frame period ⌝ }
+{
+    if period < 1 {
+        return false;
+    }
+    frame % period == 0
+}
+
+// A task count is in range, and the sum so far with it.
+fn few_tasks(before: usize, tasks: usize) -> bool
+    requires { ⌜ before < 2 ^ 32 ⌝ }
+    requires { ⌜ tasks < 2 ^ 32 ⌝ }
+    ensures { λ r. ⌜ r ≡ (isBetween 1 tasksMost tasks && leb (before + tasks) tasksInAll) ⌝ }
+{
+    let some = between(1, Transaction::TASKS, tasks);
+    if some {
+        return before + tasks <= Table::TASKS;
+    }
+    false
+}
+
+fn header(image: &[u8]) -> Answer
+    ensures { λ r. ⌜ r ≡ headerFault (now (image .entry)) ⌝ }
+{
+    let edition = bits::value(image, 0, Table::EDITION_WIDTH);
+    let frame = bits::value(image, Table::FRAME_AT, Table::FRAME_WIDTH);
+    let count = bits::value(image, Table::COUNT_AT, Table::TRANSACTIONS_WIDTH) as usize;
+    ends(image, 0, Table::EDITION_WIDTH).then(check(
+            edition == Table::EDITION,
+            Refusal::EditionUnknown,
+            0,
+        ))
+        .then(ends(image, Table::FRAME_AT, Table::FRAME_WIDTH))
+        .then(check(1 <= frame, Refusal::FrameZero, Table::FRAME_AT))
+        .then(ends(image, Table::COUNT_AT, Table::TRANSACTIONS_WIDTH))
+        .then(check(
+            between(1, Table::TRANSACTIONS, count),
+            Refusal::TransactionCount,
+            Table::COUNT_AT,
+        ))
+}
+
+// The image ends inside one of the times that start at a bit position, one for each mode.
+fn times_end(image: &[u8], modes: usize, at: usize) -> Answer
+    requires { ⌜ modes < 16 ⌝ }
+    requires { ⌜ at < 2 ^ 33 ⌝ }
+    ensures { λ r. ⌜ r ≡ firstOf modes (λ k. endsAt (now (image .entry)) (at + k * timeWidth) timeWidth) ⌝ }
+{
+    let mut found = Answer::Accepted;
+    let mut k: usize = 0;
+    while k < modes {
+        found = found.then(ends(image, at + k * Task::TIME_WIDTH, Task::TIME_WIDTH));
+        k += 1;
+    }
+    found
+}
+
+// The sum of the times that start at a bit position: 0 where the task never runs.
+fn times_sum(image: &[u8], modes: usize, at: usize) -> u32
+    requires { ⌜ modes < 16 ⌝ }
+    requires { ⌜ at < 2 ^ 33 ⌝ }
+    ensures { λ r. ⌜ r ≡ sum modes (λ k. valueAt (now (image .entry)) (at + k * timeWidth) timeWidth) ⌝ }
+{
+    let mut all: u32 = 0;
+    let mut k: usize = 0;
+    while k < modes {
+        all = all + bits::value(image, at + k * Task::TIME_WIDTH, Task::TIME_WIDTH);
+        k += 1;
+    }
+    all
+}
+
+fn task(image: &[u8], modes: usize, at: usize) -> Answer
+    requires { ⌜ modes < 16 ⌝ }
+    requires { ⌜ at < 2 ^ 32 ⌝ }
+    ensures { λ r. ⌜ r ≡ taskFault (now (image .entry)) modes at ⌝ }
+{
+    let jitter = at + Task::JITTER_AT;
+    let blocking = at + Task::BLOCKING_AT;
+    let deadline = at + Task::DEADLINE_AT;
+    let priority = at + Task::PRIORITY_AT;
+    let times = at + Task::TIMES_AT;
+    let held = Task::at(image, at);
+    ends(image, at, Task::OFFSET_WIDTH).then(ends(image, jitter, Task::JITTER_WIDTH))
+        .then(ends(image, blocking, Task::BLOCKING_WIDTH))
+        .then(ends(image, deadline, Task::DEADLINE_WIDTH))
+        .then(check(1 <= held.deadline, Refusal::DeadlineZero, deadline))
+        .then(ends(image, priority, Task::PRIORITY_WIDTH))
+        .then(times_end(image, modes, times))
+        .then(check(
+            1 <= times_sum(image, modes, times),
+            Refusal::NeverRuns,
+            times,
+        ))
+}
+
+fn tasks(image: &[u8], modes: usize, count: usize, at: usize) -> Answer
+    requires { ⌜ modes < 16 ⌝ }
+    requires { ⌜ count < 32 ⌝ }
+    requires { ⌜ at < 2 ^ 31 ⌝ }
+    ensures { λ r. ⌜ r ≡ firstOf count (λ j. taskFault (now (image .entry)) modes (at + j * taskWidth modes)) ⌝ }
+{
+    let size = Task::TIMES_AT + modes * Task::TIME_WIDTH;
+    let mut found = Answer::Accepted;
+    let mut j: usize = 0;
+    while j < count {
+        let sound = found.is_accepted();
+        if sound {
+            found = task(image, modes, at + j * size);
+        } else {
+            return found;
+        }
+        j += 1;
+    }
+    found
+}
+
+// The counts and the period of a transaction, where `before` tasks stand before it.
+fn head(image: &[u8], before: usize, at: usize) -> Answer
+    requires { ⌜ before < 2 ^ 32 ⌝ }
+    requires { ⌜ at < 2 ^ 32 ⌝ }
+    ensures { λ r. ⌜ r ≡ headFault (now (image .entry)) before at ⌝ }
+{
+    let modes = at + Transaction::MODES_AT;
+    let tasks = at + Transaction::TASKS_AT;
+    let frame = bits::value(image, Table::FRAME_AT, Table::FRAME_WIDTH);
+    let held = Transaction::at(image, at);
+    ends(image, at, Transaction::PERIOD_WIDTH).then(check(
+            divides(frame, held.period),
+            Refusal::PeriodUnfit,
+            at,
+        ))
+        .then(ends(image, modes, Transaction::MODES_WIDTH))
+        .then(check(
+            between(1, Transaction::MODES, held.modes),
+            Refusal::ModeCount,
+            modes,
+        ))
+        .then(ends(image, tasks, Transaction::TASKS_WIDTH))
+        .then(check(few_tasks(before, held.tasks), Refusal::TaskCount, tasks))
+}
+
+fn transaction(image: &[u8], before: usize, at: usize) -> Answer
+    requires { ⌜ before < 2 ^ 32 ⌝ }
+    requires { ⌜ at < 2 ^ 30 ⌝ }
+    ensures { λ r. ⌜ r ≡ transactionFault (now (image .entry)) before at ⌝ }
+{
+    let found = head(image, before, at);
+    let sound = found.is_accepted();
+    if sound {
+        let held = Transaction::at(image, at);
+        tasks(image, held.modes, held.tasks, at + Transaction::WIDTH)
+    } else {
+        found
+    }
+}
+
+// Where a transaction ends.
+pub(crate) fn end_of(image: &[u8], at: usize) -> usize
+    requires { ⌜ at < 2 ^ 32 ⌝ }
+    ensures { λ r. ⌜ r ≡ past (now (image .entry)) at ⌝ }
+{
+    let held = Transaction::at(image, at);
+    at + Transaction::WIDTH + held.tasks * (Task::TIMES_AT + held.modes * Task::TIME_WIDTH)
+}
+
+// Padding that starts at a bit position, and what follows it.
+fn end(image: &[u8], at: usize) -> Answer
+    requires { ⌜ at < 2 ^ 32 ⌝ }
+    ensures { λ r. ⌜ r ≡ endFault (now (image .entry)) at ⌝ }
+{
+    let bytes = (at + 7) / 8;
+    let next = 8 * bytes;
+    let padding = bits::value(image, at, next - at);
+    check(padding == 0, Refusal::PaddingSet, at).then(check(
+        image.len() <= bytes,
+        Refusal::BytesFollow,
+        next,
+    ))
+}
+
+// The transactions, and the end of the image.
+fn transactions(image: &[u8]) -> Answer
+    ensures { λ r. ⌜ r ≡ bodyFault (now (image .entry)) ⌝ }
+{
+    let count = bits::value(image, Table::COUNT_AT, Table::TRANSACTIONS_WIDTH) as usize;
+    let mut found = Answer::Accepted;
+    let mut before: usize = 0;
+    let mut at = Table::FIRST_AT;
+    let mut u: usize = 0;
+    while u < count {
+        let sound = found.is_accepted();
+        if sound {
+            found = transaction(image, before, at);
+        } else {
+            return found;
+        }
+        let held = Transaction::at(image, at);
+        before += held.tasks;
+        at = end_of(image, at);
+        u += 1;
+    }
+    found.then(end(image, at))
+}
+
+pub(crate) fn first_fault(image: &[u8]) -> Answer
+    ensures { λ r. ⌜ r ≡ imageFault (now (image .entry)) ⌝ }
+{
+    let found = header(image);
+    let sound = found.is_accepted();
+    if sound { transactions(image) } else { found }
+}
