@@ -1,5 +1,5 @@
 -- Bits and bytes: a byte is the number that its eight bits say, and a number that is 0 has bits that are 0.
-use mathlib.Core.Path.{_≡_, refl, sym, ap, _∙_}
+use mathlib.Core.Path.{_≡_, sym, _∙_}
 use mathlib.Core.List.{List}
 use Prim.Native.Nat.{ℕ, zero, suc, _+_, _-_, _*_, _/_, _%_, _^_, _≤_, _<_}
 use native.Mathlib.Nat.{div-eq-of-lt, div-one}
@@ -8,7 +8,6 @@ use native.Mathlib.Omega.{arith}
 use lib.ListN.{getD}
 use lib.Pow.{shr-shr}
 use Rattle.bits.specs.Bits.{bitAt, valueAt}
-use Rattle.bits.proofs.Fields.{bit-below}
 
 pub zero-bits : (image : List ℕ) (p w : ℕ) → valueAt image p w ≡ 0 → (k : ℕ) → k < w → bitAt image (p + k) ≡ 0
 unfolding valueAt

@@ -1,8 +1,8 @@
 -- Laws of fields, over any image, any position and any width: the range of a field, and fields that follow one another.
-use mathlib.Core.Path.{_≡_, refl, sym, ap, _∙_}
+use mathlib.Core.Path.{_≡_}
 use mathlib.Core.List.{List}
-use Prim.Native.Nat.{ℕ, zero, suc, _+_, _-_, _*_, _/_, _%_, _^_, _≤_, _<_, zero-le}
-use native.Mathlib.Nat.{mod-lt, add-zero, add-suc, add-assoc, mul-one, pow-suc, mul-assoc, mul-comm, mul-add}
+use Prim.Native.Nat.{ℕ, zero, suc, _+_, _*_, _^_, _<_}
+use native.Mathlib.Nat.{mod-lt, add-zero, add-suc, add-assoc, mul-one, pow-suc, mul-assoc}
 use native.Mathlib.Omega.{arith}
 use lib.Dec.{lit<}
 use Rattle.bits.specs.Bits.{bitAt, valueAt}

@@ -11,27 +11,8 @@ use Rattle.table.specs.Sum.{sum}
 use Rattle.table.specs.Limits.{transactionsMost, modesMost, tasksMost, tasksInAll, editionKnown, timeWidth}
 use Rattle.image.specs.declared.answer.Answer.the-variants.{Accepted}
 use Rattle.image.specs.Places.{timeAt, taskAt, start, bytesTo}
-use Rattle.image.specs.Said.{
-  editionIn,
-  frameIn,
-  countIn,
-  periodIn,
-  modesIn,
-  tasksIn,
-  deadlineIn,
-  timeIn,
-  tasksBefore,
-}
-use Rattle.image.specs.Fault.{
-  isBetween,
-  headerFault,
-  taskFault,
-  headFault,
-  transactionFault,
-  endFault,
-  bodyFault,
-  imageFault,
-}
+use Rattle.image.specs.Said.{editionIn, frameIn, countIn, periodIn, modesIn, tasksIn, deadlineIn, timeIn, tasksBefore}
+use Rattle.image.specs.Fault.{isBetween, headerFault, taskFault, headFault, transactionFault, endFault, bodyFault, imageFault}
 use Rattle.image.specs.Read.{IsAccepted}
 use Rattle.image.proofs.Findings.{none-first, none-second, none-of, held, both-first, both-second}
 use Rattle.image.proofs.Places.{next-before}

@@ -8,35 +8,14 @@ use Rattle.table.specs.Sum.{sum}
 use Rattle.table.specs.Table.{transactions, transaction, tasks, task}
 use Rattle.table.specs.Number.{before, inAll}
 use Rattle.table.specs.Sample.{plain, S, lone}
-use Rattle.image.specs.declared.answer.Answer.{Answer}
 use Rattle.image.specs.declared.answer.Answer.the-variants.{Accepted, Refused}
-use Rattle.image.specs.declared.answer.Refusal.the-variants.{
-  EndsInside,
-  EditionUnknown,
-  FrameZero,
-  TransactionCount,
-  PeriodUnfit,
-  ModeCount,
-  TaskCount,
-  DeadlineZero,
-  NeverRuns,
-  PaddingSet,
-  BytesFollow,
-}
-use Rattle.image.specs.Answer.{answerNumber, answerPlace, _then_, firstOf, checked}
+use Rattle.image.specs.declared.answer.Refusal.the-variants.{EndsInside, EditionUnknown, FrameZero, TransactionCount, PeriodUnfit, ModeCount, TaskCount, DeadlineZero, NeverRuns, PaddingSet, BytesFollow}
+use Rattle.image.specs.Answer.{answerNumber, _then_, firstOf, checked}
 use Rattle.image.specs.Lists.{listOf, joined, padded}
 use Rattle.image.specs.Places.{past, start}
 use Rattle.image.specs.Said.{taskIn, transactionIn, tableIn, tasksBefore}
-use Rattle.image.specs.Fault.{
-  headerFault,
-  taskFault,
-  headFault,
-  transactionFault,
-  endFault,
-  bodyFault,
-  imageFault,
-}
-use Rattle.image.specs.Row.{ofTransaction, ofTask, ofHeader, rowOf, taskOf, transactionOf, tableOf}
+use Rattle.image.specs.Fault.{headerFault, taskFault, headFault, transactionFault, endFault, bodyFault, imageFault}
+use Rattle.image.specs.Row.{ofTransaction, ofTask, ofHeader, rowOf}
 
 -- one task, frame 10, T 10, C 3, P 5, D 10
 abbrev last : List ℕ

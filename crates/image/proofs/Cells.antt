@@ -1,18 +1,17 @@
 -- The cells of a transaction and of a task that an image says.
-use mathlib.Core.Path.{_≡_, refl, sym}
+use mathlib.Core.Path.{_≡_, refl}
 use mathlib.Core.List.{List, [], _∷_}
 use Prim.Native.Nat.{ℕ, zero, suc, _+_, _*_}
 use native.Mathlib.Nat.{add-mul}
-use native.Mathlib.Numerals.{add-one}
 use lib.ListN.{length, length-append}
 use lib.Seq.{sets}
 use Rattle.table.specs.Sum.{sum}
 use Rattle.image.specs.Said.{periodIn, modesIn, tasksIn, taskIn, transactionIn, tasksBefore}
-use Rattle.image.specs.Places.{headWidth, taskWidth, start}
+use Rattle.image.specs.Places.{taskWidth, start}
 use Rattle.image.specs.Row.{transactionCells, taskCells, ofTransaction, ofTask}
 use Rattle.image.specs.Fill.{tasksCells, headsIn, ofTasksIn, everyTaskIn}
 use Rattle.table.specs.Table.{Task, Transaction}
-use Rattle.image.specs.Lists.{listOf, joined}
+use Rattle.image.specs.Lists.{joined}
 use Rattle.image.proofs.Lists.{length-listOf, length-joined, join-next}
 
 pub head-cells :

@@ -1,11 +1,11 @@
 -- What reading promises to the layers above: the row of an accepted image holds the image's table, which keeps its
 -- bounds, and numbers its tasks; the row of a refused one holds no transaction.
-use mathlib.Core.Path.{_≡_, refl, sym, ap, _∙_}
+use mathlib.Core.Path.{_≡_, ap, _∙_}
 use mathlib.Core.List.{List}
-use Prim.Native.Nat.{ℕ, _+_, _<_}
+use Prim.Native.Nat.{ℕ, _+_}
 use lib.ListN.{getD}
-use Rattle.table.specs.Table.{Table, transactions, tasks, IsTask}
-use Rattle.table.specs.Number.{before, inAll, number}
+use Rattle.table.specs.Table.{Table, transactions, IsTask}
+use Rattle.table.specs.Number.{inAll, number}
 use Rattle.table.specs.Kept.{Kept}
 use Rattle.image.specs.Lists.{padded}
 use Rattle.image.specs.Said.{tableIn}

@@ -1,42 +1,22 @@
 -- What the fill leaves, group by group, is the row of the table that the image says.
-use mathlib.Core.Path.{_≡_, refl, sym, ap, _∙_}
+use mathlib.Core.Path.{_≡_, refl, sym, _∙_}
 use mathlib.Core.List.{List, [], _∷_, _++_}
-use Prim.Native.Nat.{ℕ, _+_, _*_, _≤_, _<_}
+use Prim.Native.Nat.{ℕ, _≤_, _<_}
 use native.Mathlib.Omega.{arith}
-use lib.ListN.{length, length-append}
+use lib.ListN.{length}
 use lib.Seq.{sets}
 use Rattle.table.specs.Table.{Table, transactions, transaction, tasks, task}
-use Rattle.table.specs.Number.{before, inAll}
+use Rattle.table.specs.Number.{before}
 use Rattle.image.specs.Lists.{joined, padded}
 use Rattle.image.specs.Places.{start}
 use Rattle.image.specs.Said.{editionIn, frameIn, countIn, tasksIn, tableIn, tasksBefore}
-use Rattle.image.specs.Row.{
-  headerCells,
-  transactionCells,
-  taskCells,
-  tasksCell,
-  rowCells,
-  ofTransaction,
-  ofTask,
-  ofHeader,
-  rowOf,
-  emptyRow,
-}
+use Rattle.image.specs.Row.{headerCells, tasksCell, rowCells, ofTransaction, ofTask, ofHeader, rowOf, emptyRow}
 use Rattle.image.specs.Fill.{tasksCells, headsIn, ofTasksIn, everyTaskIn}
 use Rattle.image.specs.Read.{IsAccepted}
 use Rattle.image.proofs.Lists.{joined-same, length-padded, padded-again, sets-padded}
 use Rattle.image.proofs.Accepted.{header, few-tasks}
 use Rattle.image.proofs.Cells.{length-heads, length-every}
-use Rattle.image.proofs.Said.{
-  said-edition,
-  said-frame,
-  said-transactions,
-  said-transaction,
-  said-tasks,
-  said-task,
-  said-before,
-  said-in-all,
-}
+use Rattle.image.proofs.Said.{said-edition, said-frame, said-transactions, said-transaction, said-tasks, said-task, said-before, said-in-all}
 
 -- a header of zeros
 abbrev blank : List ℕ

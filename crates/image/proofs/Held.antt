@@ -1,51 +1,14 @@
 -- The fields of the table that a row holds, by the row's cells.
 use mathlib.Core.Path.{_≡_, refl, sym, ap, _∙_}
 use mathlib.Core.List.{List}
-use Prim.Native.Nat.{ℕ, zero, suc, _+_, _≤_, _<_}
+use Prim.Native.Nat.{ℕ, _+_, _≤_, _<_}
 use native.Mathlib.Decide.{decLt}
 use native.Mathlib.Omega.{arith}
 use lib.ListN.{length, getD, List·getD-eq-default}
-use lib.Dec.{ltb}
 use borrow.Author.Tests.{lt-ltb, le-ltb}
-use Rattle.table.specs.Table.{
-  Task,
-  Transaction,
-  transactions,
-  transaction,
-  noTransaction,
-  period,
-  modes,
-  tasks,
-  task,
-  noTask,
-  offset,
-  jitter,
-  blocking,
-  deadline,
-  priority,
-  time,
-}
+use Rattle.table.specs.Table.{Task, Transaction, transactions, transaction, noTransaction, period, modes, tasks, task, noTask, offset, jitter, blocking, deadline, priority, time}
 use Rattle.image.specs.Lists.{listOf}
-use Rattle.image.specs.Row.{
-  countCell,
-  transactionCell,
-  periodCell,
-  modesCell,
-  firstCell,
-  hasCell,
-  taskCell,
-  offsetCell,
-  jitterCell,
-  blockingCell,
-  deadlineCell,
-  priorityCell,
-  timesCell,
-  taskOf,
-  transactionOf,
-  tableOf,
-  headCell,
-  bodyCell,
-}
+use Rattle.image.specs.Row.{countCell, transactionCell, periodCell, modesCell, firstCell, hasCell, taskCell, offsetCell, jitterCell, blockingCell, deadlineCell, priorityCell, timesCell, taskOf, transactionOf, tableOf, headCell, bodyCell}
 use Rattle.image.proofs.Lists.{length-listOf, getD-listOf}
 
 module _ (row : List ℕ) where

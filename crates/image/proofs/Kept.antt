@@ -1,61 +1,22 @@
 -- An accepted image says a table that keeps every bound and every field's range.
-use mathlib.Core.Path.{_≡_, refl, sym, ap, _∙_}
+use mathlib.Core.Path.{_≡_, _∙_}
 use mathlib.Core.List.{List}
-use Prim.Native.Nat.{ℕ, zero, suc, _+_, _≤_, _<_, _^_, _%_}
+use Prim.Native.Nat.{ℕ, zero, suc, _≤_, _<_}
 use native.Mathlib.Decide.{decLt}
 use native.Mathlib.Omega.{arith}
-use lib.ListN.{length, getD}
+use lib.ListN.{length}
 use Rattle.bits.proofs.Fields.{value-below}
 use Rattle.table.specs.Sum.{sum}
-use Rattle.table.specs.Table.{Task, Transaction, Table, transactions, transaction, noTask}
-use Rattle.table.specs.Number.{inAll}
-use Rattle.table.specs.Limits.{
-  frameMost,
-  transactionsMost,
-  modesMost,
-  tasksMost,
-  tasksInAll,
-  editionKnown,
-  frameWidth,
-  offsetWidth,
-  jitterWidth,
-  blockingWidth,
-  deadlineWidth,
-  priorityWidth,
-  timeWidth,
-}
+use Rattle.table.specs.Table.{noTask}
+use Rattle.table.specs.Limits.{frameWidth, offsetWidth, jitterWidth, blockingWidth, deadlineWidth, priorityWidth, timeWidth}
 use Rattle.table.specs.Kept.{Runs, KeptTask, KeptTransaction, Kept}
 use Rattle.image.specs.Lists.{listOf}
 use Rattle.image.specs.Places.{frameAt, taskAt, start}
-use Rattle.image.specs.Said.{
-  frameIn,
-  countIn,
-  modesIn,
-  tasksIn,
-  timeIn,
-  taskIn,
-  transactionIn,
-  tableIn,
-  tasksBefore,
-}
+use Rattle.image.specs.Said.{frameIn, countIn, modesIn, tasksIn, timeIn, taskIn, transactionIn, tableIn, tasksBefore}
 use Rattle.image.specs.Read.{IsAccepted}
 use Rattle.image.proofs.Lists.{length-listOf, getD-listOf}
-use Rattle.image.proofs.Accepted.{
-  SoundHeader,
-  SoundHead,
-  SoundTask,
-  header,
-  head,
-  task,
-  few-tasks,
-}
-use Rattle.image.proofs.Said.{
-  said-edition,
-  said-frame,
-  said-transactions,
-  said-transaction,
-  said-in-all,
-}
+use Rattle.image.proofs.Accepted.{SoundHead, SoundTask, header, head, task, few-tasks}
+use Rattle.image.proofs.Said.{said-edition, said-frame, said-transactions, said-transaction, said-in-all}
 
 -- a sum that is not 0 has a term that is not 0
 some-term : (n : ℕ) (f : ℕ → ℕ) → 1 ≤ sum n f → Runs (listOf n f)

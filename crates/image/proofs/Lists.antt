@@ -1,12 +1,12 @@
 -- Laws of lists by their index, of runs of stores, and of a row that is filled from its front.
 use mathlib.Core.Path.{_≡_, refl, sym, ap, _∙_}
-use mathlib.Core.List.{List, [], _∷_, _++_, append-assoc, append-nil}
-use Prim.Native.Nat.{ℕ, zero, suc, _+_, _-_, _*_, _≤_, _<_, zero-le, suc-le-suc}
+use mathlib.Core.List.{List, [], _∷_, _++_, append-assoc}
+use Prim.Native.Nat.{ℕ, zero, suc, _+_, _-_, _*_, _≤_, _<_}
 use native.Mathlib.Nat.{le-of-suc-le-suc, not-suc-le-zero, add-zero, add-suc, suc-add, suc-mul, zero-mul, sub-zero, le-of-eq}
 use native.Mathlib.Decide.{decLt}
 use native.Mathlib.Numerals.{add-one}
 use native.Mathlib.Omega.{arith}
-use lib.ListN.{length, getD, take, drop, set, replicate, length-append, length-replicate, replicate-append-replicate, List·getD-append, List·getD-eq-default}
+use lib.ListN.{length, getD, drop, set, replicate, length-append, length-replicate, replicate-append-replicate, List·getD-append, List·getD-eq-default}
 use lib.Seq.{sets, sets-eq, take-append-seam, drop-append-add, getD-append-add}
 use Rattle.image.specs.Lists.{listOf, joined, padded}
 

@@ -1,14 +1,13 @@
 -- Places are small, whatever the bytes are: the widths of the counts alone bound them.
-use mathlib.Core.Path.{_≡_, refl, sym, ap, _∙_}
+use mathlib.Core.Path.{_≡_}
 use mathlib.Core.List.{List}
-use Prim.Native.Nat.{ℕ, zero, suc, _+_, _*_, _^_, _≤_, _<_}
-use native.Mathlib.Nat.{mul-le-mul, le-refl}
+use Prim.Native.Nat.{ℕ, zero, suc, _+_, _*_, _≤_, _<_}
+use native.Mathlib.Nat.{mul-le-mul}
 use native.Mathlib.Numerals.{add-one}
 use native.Mathlib.Omega.{arith}
-use Rattle.bits.specs.Bits.{valueAt}
 use Rattle.bits.proofs.Fields.{value-below}
 use Rattle.table.specs.Sum.{sum}
-use Rattle.image.specs.Places.{modesAt, tasksAt, countAt, taskWidth, taskAt, past, start}
+use Rattle.image.specs.Places.{modesAt, tasksAt, countAt, taskWidth, past, start}
 use Rattle.image.specs.Said.{countIn, modesIn, tasksIn, tasksBefore}
 
 pub count-small : (image : List ℕ) → countIn image < 64

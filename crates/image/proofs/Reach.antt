@@ -1,7 +1,7 @@
 -- How far an image reaches: the longest accepted one, and the furthest place of a refusal.
-use mathlib.Core.Path.{_≡_, refl, sym}
+use mathlib.Core.Path.{_≡_}
 use mathlib.Core.List.{List}
-use Prim.Native.Nat.{ℕ, zero, suc, _+_, _-_, _*_, _/_, _≤_, _<_}
+use Prim.Native.Nat.{ℕ, zero, suc, _+_, _*_, _≤_, _<_}
 use native.Mathlib.Nat.{mul-le-mul, le-refl, add-mul, one-mul}
 use native.Mathlib.Decide.{ℕ-discrete}
 use native.Mathlib.Omega.{arith}
@@ -12,21 +12,12 @@ use Rattle.bits.specs.Bits.{isInside}
 use Rattle.image.specs.declared.answer.Refusal.the-variants.{EndsInside, EditionUnknown, FrameZero, TransactionCount}
 use Rattle.image.specs.declared.answer.Answer.the-variants.{Accepted}
 use Rattle.image.specs.Answer.{answerPlace, firstOf}
-use Rattle.image.specs.Places.{editionAt, frameAt, countAt, headWidth, taskWidth, taskAt, past, start, bytesTo, longestImage}
+use Rattle.image.specs.Places.{editionAt, frameAt, countAt, taskWidth, taskAt, past, start, longestImage}
 use Rattle.image.specs.Said.{countIn, modesIn, tasksIn, tasksBefore}
-use Rattle.image.specs.Fault.{
-  endsAt,
-  headerFault,
-  taskFault,
-  headFault,
-  transactionFault,
-  endFault,
-  bodyFault,
-  imageFault,
-}
+use Rattle.image.specs.Fault.{endsAt, headerFault, taskFault, headFault, transactionFault, endFault, bodyFault, imageFault}
 use Rattle.image.specs.Read.{IsAccepted}
 use Rattle.image.proofs.Findings.{none-first, none-of, place-checked, place-then, place-first}
-use Rattle.image.proofs.Accepted.{SoundHeader, SoundHead, sound-header, sound-head, SoundEnd, header, head, end}
+use Rattle.image.proofs.Accepted.{SoundHead, sound-header, sound-head, header, head, end}
 
 -- the widest task has 298 bits, and each transaction adds its head of 33
 tasks-reach : (n m : ℕ) → m ≤ 8 → n * taskWidth m ≤ n * 298

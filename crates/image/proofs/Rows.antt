@@ -1,55 +1,18 @@
 -- The row of a table that keeps its bounds holds that table, and numbers its tasks.
 use mathlib.Core.Path.{_≡_, refl, sym, ap, _∙_}
 use mathlib.Core.List.{List, [], _∷_, _++_}
-use Prim.Native.Nat.{ℕ, zero, suc, _+_, _*_, _≤_, _<_}
+use Prim.Native.Nat.{ℕ, zero, suc, _+_, _*_, _<_}
 use native.Mathlib.Nat.{add-assoc, add-mul}
 use native.Mathlib.Omega.{arith}
-use lib.ListN.{length, getD, length-append, List·getD-append, List·getD-eq-default}
+use lib.ListN.{length, getD, length-append, List·getD-append}
 use lib.Seq.{getD-append-add, ext-getD}
 use Rattle.table.specs.Sum.{sum}
-use Rattle.table.specs.Table.{
-  Task,
-  Transaction,
-  Table,
-  transactions,
-  transaction,
-  noTransaction,
-  tasks,
-  task,
-  noTask,
-  IsTask,
-}
+use Rattle.table.specs.Table.{Task, Table, transactions, transaction, noTransaction, tasks, task, noTask, IsTask}
 use Rattle.table.specs.Number.{before, inAll, number}
-use Rattle.table.specs.Limits.{transactionsMost, modesMost, tasksInAll}
-use Rattle.table.specs.Kept.{KeptTask, KeptTransaction, Kept}
+use Rattle.table.specs.Limits.{modesMost}
+use Rattle.table.specs.Kept.{KeptTask, Kept}
 use Rattle.image.specs.Lists.{listOf, joined, padded}
-use Rattle.image.specs.Row.{
-  headerCells,
-  transactionCells,
-  taskCells,
-  tasksCell,
-  rowCells,
-  editionCell,
-  frameCell,
-  countCell,
-  inAllCell,
-  transactionCell,
-  periodCell,
-  modesCell,
-  firstCell,
-  hasCell,
-  taskCell,
-  ownerCell,
-  timesCell,
-  ofTransaction,
-  ofTask,
-  ofHeader,
-  rowOf,
-  taskOf,
-  transactionOf,
-  tableOf,
-  headCell,
-}
+use Rattle.image.specs.Row.{headerCells, transactionCells, taskCells, tasksCell, rowCells, editionCell, frameCell, countCell, inAllCell, transactionCell, periodCell, modesCell, firstCell, hasCell, taskCell, ownerCell, timesCell, ofTransaction, ofTask, ofHeader, rowOf, taskOf, transactionOf, tableOf}
 use Rattle.image.proofs.Lists.{length-listOf, getD-listOf, length-joined, getD-joined, length-padded, getD-padded}
 use Rattle.image.proofs.Cells.{length-head, length-task}
 

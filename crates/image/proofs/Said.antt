@@ -1,11 +1,9 @@
 -- The table that an image says, by the places of its fields.
-use mathlib.Core.Path.{_≡_, refl, sym, ap, _∙_}
+use mathlib.Core.Path.{_≡_, refl}
 use mathlib.Core.List.{List}
 use Prim.Native.Nat.{ℕ, _≤_, _<_}
 use native.Mathlib.Omega.{arith}
-use lib.ListN.{length}
-use Rattle.table.specs.Sum.{sum}
-use Rattle.table.specs.Table.{Task, Transaction, Table, transactions, transaction, tasks, task}
+use Rattle.table.specs.Table.{transactions, transaction, tasks, task}
 use Rattle.table.specs.Number.{before, inAll}
 use Rattle.table.proofs.Sum.{sum-ext}
 use Rattle.image.specs.Places.{taskAt, start}

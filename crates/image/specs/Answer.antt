@@ -2,19 +2,7 @@
 use mathlib.Core.Bool.{Bool, true, false}
 use Prim.Native.Nat.{ℕ, zero, suc}
 use Rattle.image.specs.declared.answer.Refusal.{Refusal}
-use Rattle.image.specs.declared.answer.Refusal.the-variants.{
-  EndsInside,
-  EditionUnknown,
-  FrameZero,
-  TransactionCount,
-  PeriodUnfit,
-  ModeCount,
-  TaskCount,
-  DeadlineZero,
-  NeverRuns,
-  PaddingSet,
-  BytesFollow,
-}
+use Rattle.image.specs.declared.answer.Refusal.the-variants.{EndsInside, EditionUnknown, FrameZero, TransactionCount, PeriodUnfit, ModeCount, TaskCount, DeadlineZero, NeverRuns, PaddingSet, BytesFollow}
 use Rattle.image.specs.declared.answer.Answer.{Answer}
 use Rattle.image.specs.declared.answer.Answer.the-variants.{Accepted, Refused}
 

@@ -6,67 +6,12 @@ use lib.ListN.{length}
 use lib.Dec.{leb, eqb}
 use Rattle.bits.specs.Bits.{valueAt, isInside}
 use Rattle.table.specs.Sum.{sum}
-use Rattle.table.specs.Limits.{
-  transactionsMost,
-  modesMost,
-  tasksMost,
-  tasksInAll,
-  editionKnown,
-  editionWidth,
-  frameWidth,
-  transactionsWidth,
-  periodWidth,
-  modesWidth,
-  tasksWidth,
-  offsetWidth,
-  jitterWidth,
-  blockingWidth,
-  deadlineWidth,
-  priorityWidth,
-  timeWidth,
-}
+use Rattle.table.specs.Limits.{transactionsMost, modesMost, tasksMost, tasksInAll, editionKnown, editionWidth, frameWidth, transactionsWidth, periodWidth, modesWidth, tasksWidth, offsetWidth, jitterWidth, blockingWidth, deadlineWidth, priorityWidth, timeWidth}
 use Rattle.image.specs.declared.answer.Answer.{Answer}
-use Rattle.image.specs.declared.answer.Refusal.the-variants.{
-  EndsInside,
-  EditionUnknown,
-  FrameZero,
-  TransactionCount,
-  PeriodUnfit,
-  ModeCount,
-  TaskCount,
-  DeadlineZero,
-  NeverRuns,
-  PaddingSet,
-  BytesFollow,
-}
+use Rattle.image.specs.declared.answer.Refusal.the-variants.{EndsInside, EditionUnknown, FrameZero, TransactionCount, PeriodUnfit, ModeCount, TaskCount, DeadlineZero, NeverRuns, PaddingSet, BytesFollow}
 use Rattle.image.specs.Answer.{_then_, firstOf, checked}
-use Rattle.image.specs.Places.{
-  editionAt,
-  frameAt,
-  countAt,
-  modesAt,
-  tasksAt,
-  jitterAt,
-  blockingAt,
-  deadlineAt,
-  priorityAt,
-  timesAt,
-  timeAt,
-  taskAt,
-  start,
-  bytesTo,
-}
-use Rattle.image.specs.Said.{
-  editionIn,
-  frameIn,
-  countIn,
-  periodIn,
-  modesIn,
-  tasksIn,
-  deadlineIn,
-  timeIn,
-  tasksBefore,
-}
+use Rattle.image.specs.Places.{editionAt, frameAt, countAt, modesAt, tasksAt, jitterAt, blockingAt, deadlineAt, priorityAt, timesAt, timeAt, taskAt, start, bytesTo}
+use Rattle.image.specs.Said.{editionIn, frameIn, countIn, periodIn, modesIn, tasksIn, deadlineIn, timeIn, tasksBefore}
 
 -- the image ends inside the w bits at p, of which there may be none
 abbrev pub endsAt : List ℕ → ℕ → ℕ → Answer

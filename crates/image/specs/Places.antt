@@ -3,20 +3,7 @@
 use mathlib.Core.List.{List}
 use Prim.Native.Nat.{ℕ, zero, suc, _+_, _*_, _/_}
 use Rattle.bits.specs.Bits.{valueAt}
-use Rattle.table.specs.Limits.{
-  editionWidth,
-  frameWidth,
-  transactionsWidth,
-  periodWidth,
-  modesWidth,
-  tasksWidth,
-  offsetWidth,
-  jitterWidth,
-  blockingWidth,
-  deadlineWidth,
-  priorityWidth,
-  timeWidth,
-}
+use Rattle.table.specs.Limits.{editionWidth, frameWidth, transactionsWidth, periodWidth, modesWidth, tasksWidth, offsetWidth, jitterWidth, blockingWidth, deadlineWidth, priorityWidth, timeWidth}
 
 -- the header: edition, major frame, transaction count; then the first transaction
 

@@ -11,16 +11,7 @@ use Rattle.image.specs.declared.answer.Answer.{Answer}
 use Rattle.image.specs.declared.answer.Answer.the-variants.{Accepted, Refused}
 use Rattle.image.specs.Said.{tableIn}
 use Rattle.image.specs.Fault.{imageFault}
-use Rattle.image.specs.Row.{
-  inAllCell,
-  transactionCell,
-  firstCell,
-  taskCell,
-  ownerCell,
-  rowOf,
-  emptyRow,
-  tableOf,
-}
+use Rattle.image.specs.Row.{inAllCell, transactionCell, firstCell, taskCell, ownerCell, rowOf, emptyRow, tableOf}
 
 -- the image is accepted
 abbrev pub IsAccepted : List ℕ → Type 0

@@ -5,15 +5,7 @@ use mathlib.Core.Bool.{cond}
 use Prim.Native.Nat.{ℕ, _+_, _*_}
 use lib.ListN.{length, getD}
 use lib.Dec.{ltb}
-use Rattle.table.specs.Table.{
-  Task,
-  Transaction,
-  Table,
-  transactions,
-  transaction,
-  tasks,
-  task,
-}
+use Rattle.table.specs.Table.{Task, Transaction, Table, transactions, transaction, tasks, task}
 use Rattle.table.specs.Number.{before, inAll}
 use Rattle.table.specs.Limits.{transactionsMost, modesMost, tasksInAll}
 use Rattle.image.specs.Lists.{listOf, joined, padded}

@@ -4,35 +4,9 @@ use Prim.Native.Nat.{ℕ}
 use Rattle.bits.specs.Bits.{valueAt}
 use Rattle.table.specs.Sum.{sum}
 use Rattle.table.specs.Table.{Task, Transaction, Table}
-use Rattle.table.specs.Limits.{
-  editionWidth,
-  frameWidth,
-  transactionsWidth,
-  periodWidth,
-  modesWidth,
-  tasksWidth,
-  offsetWidth,
-  jitterWidth,
-  blockingWidth,
-  deadlineWidth,
-  priorityWidth,
-  timeWidth,
-}
+use Rattle.table.specs.Limits.{editionWidth, frameWidth, transactionsWidth, periodWidth, modesWidth, tasksWidth, offsetWidth, jitterWidth, blockingWidth, deadlineWidth, priorityWidth, timeWidth}
 use Rattle.image.specs.Lists.{listOf}
-use Rattle.image.specs.Places.{
-  editionAt,
-  frameAt,
-  countAt,
-  modesAt,
-  tasksAt,
-  jitterAt,
-  blockingAt,
-  deadlineAt,
-  priorityAt,
-  timeAt,
-  taskAt,
-  start,
-}
+use Rattle.image.specs.Places.{editionAt, frameAt, countAt, modesAt, tasksAt, jitterAt, blockingAt, deadlineAt, priorityAt, timeAt, taskAt, start}
 
 abbrev pub editionIn : List ℕ → ℕ
 editionIn image = valueAt image editionAt editionWidth

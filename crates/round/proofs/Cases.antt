@@ -1,7 +1,6 @@
 -- Images of tables, computed: document 01's last image, S, and a table in which no two fields are the same number.
 use mathlib.Core.Path.{_≡_, refl}
-use mathlib.Core.List.{List, [], _∷_, _++_}
-use Prim.Native.Nat.{ℕ}
+use mathlib.Core.List.{[], _∷_, _++_}
 use lib.ListN.{replicate}
 use Rattle.table.specs.Table.{Table, transactions, transaction}
 use Rattle.table.specs.Sample.{plain, S, lone}

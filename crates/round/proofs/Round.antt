@@ -1,55 +1,23 @@
 -- The image of an accepted image's table is that image, so two accepted images with the same table are the same bytes.
 use mathlib.Core.Path.{_≡_, refl, sym, ap, subst, _∙_}
-use mathlib.Core.List.{List, [], _∷_, _++_}
-use Prim.Native.Nat.{ℕ, zero, suc, _+_, _-_, _*_, _/_, _≤_, _<_}
-use native.Mathlib.Nat.{suc-mul, zero-mul, add-zero, zero-add, add-assoc}
+use mathlib.Core.List.{List}
+use Prim.Native.Nat.{ℕ, zero, suc, _+_, _-_, _*_, _≤_, _<_}
+use native.Mathlib.Nat.{suc-mul, zero-mul, add-zero, zero-add}
 use native.Mathlib.Decide.{decLt}
 use native.Mathlib.Omega.{arith}
 use lib.ListN.{length, getD, List·getD-eq-default}
 use lib.Seq.{ext-getD}
 use Rattle.bits.specs.Bits.{bitAt, valueAt}
 use Rattle.bits.proofs.Bytes.{zero-bits, byte-value}
-use Rattle.table.specs.Table.{Task, Table, transactions, transaction, noTask}
-use Rattle.table.specs.Limits.{
-  editionWidth,
-  frameWidth,
-  transactionsWidth,
-  periodWidth,
-  modesWidth,
-  tasksWidth,
-  offsetWidth,
-  jitterWidth,
-  blockingWidth,
-  deadlineWidth,
-  priorityWidth,
-  timeWidth,
-}
+use Rattle.table.specs.Table.{Task, transaction, noTask}
+use Rattle.table.specs.Limits.{editionWidth, frameWidth, transactionsWidth, periodWidth, modesWidth, tasksWidth, offsetWidth, jitterWidth, blockingWidth, deadlineWidth, priorityWidth, timeWidth}
 use Rattle.image.specs.Lists.{listOf, joined}
-use Rattle.image.specs.Places.{
-  editionAt,
-  frameAt,
-  countAt,
-  firstAt,
-  modesAt,
-  tasksAt,
-  headWidth,
-  jitterAt,
-  blockingAt,
-  deadlineAt,
-  priorityAt,
-  timesAt,
-  timeAt,
-  taskWidth,
-  taskAt,
-  past,
-  start,
-  bytesTo,
-}
+use Rattle.image.specs.Places.{editionAt, frameAt, countAt, firstAt, modesAt, tasksAt, headWidth, jitterAt, blockingAt, deadlineAt, priorityAt, timesAt, timeAt, taskWidth, taskAt, past, start, bytesTo}
 use Rattle.image.specs.Said.{countIn, modesIn, tasksIn, timeIn, taskIn, transactionIn, tableIn, tasksBefore}
 use Rattle.image.specs.Read.{IsAccepted}
 use Rattle.image.proofs.Lists.{length-listOf, getD-listOf, joined-same}
 use Rattle.image.proofs.Said.{said-edition, said-frame, said-transactions, said-transaction}
-use Rattle.image.proofs.Accepted.{SoundHeader, SoundHead, SoundTask, SoundEnd, header, head, task, end}
+use Rattle.image.proofs.Accepted.{SoundHead, SoundTask, header, head, task, end}
 use Rattle.round.specs.Image.{fieldBits, taskBits, transactionBits, tableBits, numberOf, bytesOf, imageOf}
 use Rattle.round.proofs.Spans.{bitsFrom, Span, meet, field-to, from, joined-span}
 

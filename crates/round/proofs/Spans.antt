@@ -1,11 +1,10 @@
 -- Spans: a list is the bits of an image from one position up to another. Spans that meet are joined, and a field's bits
 -- are a span.
-use mathlib.Core.Path.{_≡_, refl, sym, ap, _∙_}
+use mathlib.Core.Path.{_≡_, refl, sym}
 use mathlib.Core.List.{List, [], _∷_, _++_, append-nil, append-assoc}
-use Prim.Native.Nat.{ℕ, zero, suc, _+_, _-_, _*_, _/_, _%_, _≤_, _<_}
+use Prim.Native.Nat.{ℕ, zero, suc, _+_, _*_, _/_, _%_, _<_}
 use native.Mathlib.Nat.{add-zero, add-suc, add-assoc}
 use native.Mathlib.Omega.{arith}
-use lib.ListN.{length}
 use Rattle.bits.specs.Bits.{bitAt, valueAt}
 use Rattle.bits.proofs.Fields.{bit-below}
 use Rattle.image.specs.Lists.{listOf, joined}

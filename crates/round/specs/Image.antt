@@ -3,20 +3,7 @@ use mathlib.Core.List.{List, [], _∷_, _++_}
 use Prim.Native.Nat.{ℕ, zero, suc, _+_, _*_, _/_, _%_}
 use lib.ListN.{length, getD}
 use Rattle.table.specs.Table.{Task, Transaction, Table, transactions, transaction, noTask}
-use Rattle.table.specs.Limits.{
-  editionWidth,
-  frameWidth,
-  transactionsWidth,
-  periodWidth,
-  modesWidth,
-  tasksWidth,
-  offsetWidth,
-  jitterWidth,
-  blockingWidth,
-  deadlineWidth,
-  priorityWidth,
-  timeWidth,
-}
+use Rattle.table.specs.Limits.{editionWidth, frameWidth, transactionsWidth, periodWidth, modesWidth, tasksWidth, offsetWidth, jitterWidth, blockingWidth, deadlineWidth, priorityWidth, timeWidth}
 use Rattle.image.specs.Lists.{listOf, joined}
 use Rattle.image.specs.Places.{bytesTo}
 

@@ -1,6 +1,6 @@
 -- `decoded` is safe and ends. The invariant: n bytes are written, of twice as many digits.
 use mathlib.Core.Path.{_≡_, refl}
-use Prim.Native.Nat.{_+_, _-_, _*_, _≤_, zero-le}
+use Prim.Native.Nat.{_-_, _*_, _≤_, zero-le}
 use native.Mathlib.Omega.{arith}
 use lib.ListN.{length, length-set}
 use Rattle.read_cases.proofs.decoded.Statement.{statement}

@@ -1,5 +1,5 @@
 -- `line_end` meets its contract. The invariant: the end is between the start and the length.
-use Prim.Native.Nat.{_+_, _-_, _*_, _≤_}
+use Prim.Native.Nat.{_-_, _≤_}
 use native.Mathlib.Omega.{arith}
 use lib.ListN.{length}
 use Rattle.read_cases.proofs.line_end.Statement.{statement}

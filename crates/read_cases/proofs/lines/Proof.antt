@@ -1,6 +1,5 @@
 -- `lines` is safe and ends: each turn leaves the line that it took.
-use mathlib.Core.Path.{_≡_, refl}
-use Prim.Native.Nat.{_+_, _-_, _*_, _≤_, zero-le}
+use Prim.Native.Nat.{_+_, _-_, _≤_}
 use native.Mathlib.Omega.{arith}
 use lib.ListN.{length}
 use Rattle.read_cases.proofs.lines.Statement.{statement}

@@ -1,5 +1,5 @@
 -- `show_table` is safe and ends: it counts the transactions.
-use Prim.Native.Nat.{_+_, _-_, _*_, _≤_}
+use Prim.Native.Nat.{_-_, _≤_}
 use native.Mathlib.Omega.{arith}
 use Rattle.read_cases.proofs.show_table.Statement.{statement}
 use Rattle.read_cases.proofs.show_table.Tie as tie

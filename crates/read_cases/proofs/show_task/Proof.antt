@@ -1,5 +1,5 @@
 -- `show_task` is safe and ends: it counts the modes.
-use Prim.Native.Nat.{_+_, _-_, _*_, _≤_}
+use Prim.Native.Nat.{_-_, _≤_}
 use native.Mathlib.Omega.{arith}
 use Rattle.read_cases.proofs.show_task.Statement.{statement}
 use Rattle.read_cases.proofs.show_task.Tie as tie

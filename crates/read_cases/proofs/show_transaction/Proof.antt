@@ -1,5 +1,5 @@
 -- `show_transaction` is safe and ends: it counts the tasks.
-use Prim.Native.Nat.{_+_, _-_, _*_, _≤_}
+use Prim.Native.Nat.{_-_, _≤_}
 use native.Mathlib.Omega.{arith}
 use Rattle.read_cases.proofs.show_transaction.Statement.{statement}
 use Rattle.read_cases.proofs.show_transaction.Tie as tie

@@ -1,13 +1,13 @@
 -- `fill::put_every_task` meets its contract. The invariant: the cells of the tasks of the first u transactions are stored; of an accepted image they are within the row.
-use mathlib.Core.Path.{_≡_, refl, sym, _∙_}
-use Prim.Native.Nat.{ℕ, _+_, _-_, _*_, _≤_, _<_, zero-le}
+use mathlib.Core.Path.{_≡_, refl, _∙_}
+use Prim.Native.Nat.{_+_, _-_, _≤_, _<_, zero-le}
 use native.Mathlib.Omega.{arith}
 use lib.Seq.{sets}
 use denote.Ref.{now}
 use Rattle.table.specs.Sum.{sum}
 use Rattle.image.specs.Lists.{joined}
 use Rattle.image.specs.Places.{start}
-use Rattle.image.specs.Said.{countIn, modesIn, tasksIn, tasksBefore}
+use Rattle.image.specs.Said.{countIn, tasksBefore}
 use Rattle.image.specs.Row.{tasksCell}
 use Rattle.image.specs.Fill.{ofTasksIn, everyTaskIn}
 use Rattle.image.proofs.Places.{count-small, modes-small, tasks-small, next-start, next-before, Near, near}

@@ -1,5 +1,4 @@
 -- `fill::put_head` meets its contract: four stores.
-use mathlib.Core.Path.{_≡_}
 use native.Mathlib.Nat.{add-zero}
 use native.Mathlib.Numerals.{add-one, add-two, add-three}
 use native.Mathlib.Omega.{arith}

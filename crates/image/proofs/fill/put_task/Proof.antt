@@ -1,5 +1,5 @@
 -- `fill::put_task` meets its contract: six stores, then the times.
-use mathlib.Core.Path.{_≡_, _∙_}
+use mathlib.Core.Path.{_∙_}
 use native.Mathlib.Nat.{add-zero}
 use native.Mathlib.Numerals.{add-one, add-two, add-three, add-four, add-five, add-six}
 use Rattle.image.specs.Said.{taskIn}

@@ -1,5 +1,5 @@
 -- `fill::time` meets its contract: past the modes there is no time, and the cell is 0.
-use mathlib.Core.Path.{_≡_, sym, _∙_}
+use mathlib.Core.Path.{sym, _∙_}
 use Prim.Native.Nat.{ℕ, _+_, _*_, _≤_}
 use lib.ListN.{length, List·getD-eq-default}
 use denote.Ref.{now}

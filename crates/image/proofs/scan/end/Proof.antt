@@ -1,6 +1,6 @@
 -- `scan::end` meets its contract: padding is at most seven bits.
 use mathlib.Core.Path.{_≡_}
-use Prim.Native.Nat.{ℕ, _+_, _-_, _*_, _/_, min}
+use Prim.Native.Nat.{ℕ, _-_, _*_, min}
 use native.Mathlib.Omega.{arith}
 use Rattle.bits.specs.Bits.{widest}
 use Rattle.image.specs.Fault.{endFault}

@@ -1,5 +1,5 @@
 -- `scan::end_of` meets its contract: the counts are small by their widths, so no product wraps.
-use Prim.Native.Nat.{_+_, _*_, _≤_, _<_}
+use Prim.Native.Nat.{_*_, _≤_, _<_}
 use native.Mathlib.Omega.{arith}
 use denote.Ref.{now}
 use Rattle.image.specs.Places.{taskWidth, past}

@@ -1,6 +1,6 @@
 -- `scan::first_fault` meets its contract: the transactions are looked at where the header is sound.
 use Rattle.image.specs.Answer.{_then_}
-use mathlib.Core.Path.{_≡_, sym, _∙_}
+use mathlib.Core.Path.{sym, _∙_}
 use Rattle.image.specs.Fault.{imageFault}
 use Rattle.image.proofs.Findings.{accepted-is, refused-then}
 use borrow.Author.Needs.{needs}

@@ -1,7 +1,7 @@
 -- `scan::tasks` meets its contract. The invariant: what was found is the first finding of the first j tasks.
 use mathlib.Core.Path.{_≡_, refl, sym, _∙_}
 use denote.Ref.{now}
-use Prim.Native.Nat.{ℕ, _+_, _-_, _*_, _≤_, _<_, zero-le}
+use Prim.Native.Nat.{ℕ, _+_, _-_, _*_, _≤_, zero-le}
 use native.Mathlib.Omega.{arith}
 use Rattle.image.specs.declared.answer.Answer.{Answer}
 use Rattle.image.specs.Answer.{firstOf}

@@ -1,6 +1,6 @@
 -- `scan::transaction` meets its contract: its tasks are looked at where its head is sound.
 use Rattle.image.specs.Answer.{_then_}
-use mathlib.Core.Path.{_≡_, sym, _∙_}
+use mathlib.Core.Path.{sym, _∙_}
 use mathlib.Core.List.{List}
 use Prim.Native.Nat.{ℕ}
 use native.Mathlib.Omega.{arith}

@@ -1,8 +1,7 @@
 -- `scan::transactions` meets its contract. The invariant: `at` is where transaction u starts, `before` the tasks before it, and what was found is the first finding of the first u transactions.
 use mathlib.Core.Path.{_≡_, refl, sym, ap, _∙_}
 use mathlib.Core.List.{List}
-use Prim.Native.Nat.{ℕ, suc, _+_, _-_, _*_, _≤_, _<_, zero-le}
-use native.Mathlib.Numerals.{add-one}
+use Prim.Native.Nat.{ℕ, _-_, _≤_, _<_, zero-le}
 use native.Mathlib.Omega.{arith}
 use denote.Ref.{now}
 use Rattle.table.specs.Sum.{sum}
@@ -10,7 +9,7 @@ use Rattle.image.specs.declared.answer.Answer.{Answer}
 use Rattle.image.specs.Answer.{isAccepted, _then_, firstOf}
 use Rattle.image.specs.Places.{start}
 use Rattle.image.specs.Said.{countIn, tasksBefore}
-use Rattle.image.specs.Fault.{transactionFault, endFault, bodyFault}
+use Rattle.image.specs.Fault.{transactionFault, bodyFault}
 use Rattle.image.proofs.Findings.{refused-then, go-on, stop}
 use Rattle.image.proofs.Places.{start-small, before-small, count-small, tasks-small, next-start, next-before}
 use Rattle.image.proofs.scan.transactions.Statement.{statement}

@@ -1,5 +1,5 @@
 -- `Table::tasks` meets its contract: the field is the row's cell (`Held`).
-use mathlib.Core.Path.{_≡_, sym, _∙_}
+use mathlib.Core.Path.{sym, _∙_}
 use denote.Ref.{now}
 use Rattle.image.proofs.Held.{held-tasks}
 use borrow.Author.Needs.{needs}

@@ -1,5 +1,5 @@
 -- `Table::time` meets its contract: past the modes of the transaction there is no time.
-use mathlib.Core.Path.{_≡_, sym, _∙_}
+use mathlib.Core.Path.{sym, _∙_}
 use denote.Ref.{now}
 use Rattle.image.proofs.Held.{held-time, held-no-time}
 use borrow.Author.Needs.{needs}

@@ -1,0 +1,13 @@
+pub mod Answered
+pub mod Told
+pub mod Agree
+pub mod Sample
+pub mod Fields
+pub mod Ranges
+pub mod Phases
+pub mod Flags
+pub mod Loads
+pub mod Signed
+pub mod Chain
+pub mod Turns
+pub mod Walks

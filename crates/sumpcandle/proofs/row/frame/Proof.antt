@@ -1,0 +1,18 @@
+-- The major frame stands in its cell of the header. Assumes nothing.
+use borrow.Author.Needs.{needs}
+use Rattle.image.specs.Row.{tableOf}
+use Rattle.sumpcandle.proofs.row.frame.Statement.{statement}
+use Rattle.sumpcandle.proofs.row.frame.Tie as tie
+
+element-copy-out-wide : tie.Need-element-copy-out-wide
+element-copy-out-wide c = search needs
+
+wide-requires : tie.Need-wide-requires
+wide-requires c κs = search needs
+
+returns : tie.Need-returns
+unfolding tableOf
+returns c = c .wide .ensures
+
+pub frame-spec : {M : Type 1} → statement M
+frame-spec = tie.close (tie.spec element-copy-out-wide wide-requires returns)

@@ -1,0 +1,6 @@
+pub mod Lent
+pub mod Quantity
+pub mod Turn
+pub mod Told
+pub mod Answered
+pub mod Cases
