@@ -152,8 +152,8 @@ fills-unique {image} (Fills.accepted ok f) (Fills.accepted yet g) = fills-from-u
 
 -- where it is done, the row is the cells of the tasks in order of number, then what was there
 pub fills-joined :
-    {image : List ℕ} {budget : ℕ} {before after : List ℕ}
-    → Fills image budget before after filled.Done
+    {image : List ℕ} {budget n : ℕ} {before after : List ℕ}
+    → Fills image budget before after (filled.Done n)
     → (told : ℕ → Cells)
     → ((u a : ℕ) → IsTask (tableIn image) u a → Owed (tableIn image) u a budget (told (number (tableIn image) u a)))
     → after ≡ joined (inAll (tableIn image)) (λ k. listed (told k)) ++ drop (cellsOfTask * inAll (tableIn image)) before
@@ -190,8 +190,8 @@ responds-unique {image} (Responds.accepted ok f) (Responds.accepted yet g) = res
 
 -- the host's number for a task is made of the task's code and bound in the row
 pub agree :
-    {image : List ℕ} {task budget r : ℕ} {before after : List ℕ}
-    → Fills image budget before after filled.Done
+    {image : List ℕ} {task budget r n : ℕ} {before after : List ℕ}
+    → Fills image budget before after (filled.Done n)
     → task < inAll (tableIn image)
     → Responds image task budget r
     → r ≡ paired (cellsIn after task .code) (cellsIn after task .bound)
@@ -239,10 +239,10 @@ told-parts {image} {c = c} ok is o x =
 
 -- it changes only the cells of tasks that had the code 23
 pub greater-cells :
-    {image : List ℕ} {b d : ℕ} {before after raw other : List ℕ}
+    {image : List ℕ} {b d n m : ℕ} {before after raw other : List ℕ}
     → b ≤ d
-    → Fills image b before after filled.Done
-    → Fills image d raw other filled.Done
+    → Fills image b before after (filled.Done n)
+    → Fills image d raw other (filled.Done m)
     → (k : ℕ)
     → k < inAll (tableIn image)
     → ¬ (cellsIn after k .code ≡ 23)

@@ -62,7 +62,7 @@ module _ {budget : ℕ} (enough : 6 ≤ budget) where
       {before after : List ℕ} {r : Filled}
       → 9 ≤ length before
       → FillsFrom S budget before after r
-      → (r ≡ filled.Done) × (after ≡ 0 ∷ 2 ∷ 3 ∷ 0 ∷ 7 ∷ 5 ∷ 20 ∷ 5 ∷ 6 ∷ drop 9 before)
+      → (r ≡ filled.Done 3) × (after ≡ 0 ∷ 2 ∷ 3 ∷ 0 ∷ 7 ∷ 5 ∷ 20 ∷ 5 ∷ 6 ∷ drop 9 before)
   unfolding computing joined listed cellsS
   S-from room (FillsFrom.short l e) = absurd (omega arith)
   S-from room (FillsFrom.done w) = (refl, written-joined S-kept w cellsS each)
@@ -71,7 +71,7 @@ module _ {budget : ℕ} (enough : 6 ≤ budget) where
       {before after : List ℕ} {r : Filled}
       → 9 ≤ length before
       → Fills imageS budget before after r
-      → (r ≡ filled.Done) × (after ≡ 0 ∷ 2 ∷ 3 ∷ 0 ∷ 7 ∷ 5 ∷ 20 ∷ 5 ∷ 6 ∷ drop 9 before)
+      → (r ≡ filled.Done 3) × (after ≡ 0 ∷ 2 ∷ 3 ∷ 0 ∷ 7 ∷ 5 ∷ 20 ∷ 5 ∷ 6 ∷ drop 9 before)
   S-row room (Fills.refused h e) = let z : _≡_ {A = ℕ} 0 1 = cc S-accepted in absurd (omega arith)
   S-row {before} {after} {r} room (Fills.accepted ok f) =
       S-from room (subst (λ (tab : Table). FillsFrom tab budget before after r) S-table f)

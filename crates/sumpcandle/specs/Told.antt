@@ -29,12 +29,12 @@ noTask = 13
 
 -- document 01's number and place for each answer
 abbrev pub filledNumber : Filled → ℕ
-filledNumber filled.Done = 0
+filledNumber (filled.Done tasks) = 0
 filledNumber (filled.Refused refusal at) = refusalNumber refusal
 filledNumber filled.Short = noRoom
 
 abbrev pub filledPlace : Filled → ℕ
-filledPlace filled.Done = 0
+filledPlace (filled.Done tasks) = 0
 filledPlace (filled.Refused refusal at) = at
 filledPlace filled.Short = 0
 
@@ -70,7 +70,7 @@ pub record Written (tab : Table) (budget : ℕ) (before after : List ℕ) : Type
 -- fewer than three cells for each task every cell stays as it was
 pub data FillsFrom (tab : Table) (budget : ℕ) (before after : List ℕ) : Filled → Type 0 where
   short : length before < cellsOfTask * inAll tab → after ≡ before → FillsFrom tab budget before after filled.Short
-  done : Written tab budget before after → FillsFrom tab budget before after filled.Done
+  done : Written tab budget before after → FillsFrom tab budget before after (filled.Done (inAll tab))
 
 -- Fills image budget before after r: the same of an image. A refusal of the image comes first, and every cell stays as it
 -- was

@@ -23,7 +23,8 @@ mod walk;
 
 // What became of a lent row.
 pub enum Filled {
-    Done,
+    // That many tasks have their cells.
+    Done(usize),
     // Refused with document 01's fault and its place; the row is untouched.
     Refused(Refusal, usize),
     // Fewer than three cells for each task; the row is untouched.
@@ -39,7 +40,7 @@ impl Filled {
         ensures { λ r. ⌜ r ≡ filledNumber self ⌝ }
     {
         match self {
-            Filled::Done => 0,
+            Filled::Done(_) => 0,
             Filled::Refused(refusal, _) => refusal.number(),
             Filled::Short => Filled::NO_ROOM,
         }
@@ -49,7 +50,7 @@ impl Filled {
         ensures { λ r. ⌜ r ≡ filledPlace self ⌝ }
     {
         match self {
-            Filled::Done => 0,
+            Filled::Done(_) => 0,
             Filled::Refused(_, at) => at,
             Filled::Short => 0,
         }
@@ -82,7 +83,7 @@ fn fill(table: &[u32; Table::CELLS], budget: u32, row: &mut [u32]) -> Filled
         put(row, k, answers::task_cells(table, k, budget));
         k += 1;
     }
-    Filled::Done
+    Filled::Done(count)
 }
 
 // The three cells of every task of an image, under a budget that holds for each task afresh.

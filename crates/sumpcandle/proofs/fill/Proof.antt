@@ -85,10 +85,12 @@ returns-2 c =
     let s = x .before .before .before .before in
     let tab = tableOf (now (s .args .table)) in
     let all : x .loop .k ≡ inAll tab = omega (arith, c .loop-test .left, x .loop .inv .0, x .before .before .in-all .ensures) in
-    FillsFrom.done
+    let count : x .before .before .in-all .result ≡ inAll tab = x .before .before .in-all .ensures in
+    rw count
+    (FillsFrom.done
     (written-all tab (s .args .budget) (now (s .args .row)) (x .loop .row)
     (omega (arith, x .before .if1 .left, x .before .before .in-all .ensures))
-    (rw all at (x .loop .inv .1)))
+    (rw all at (x .loop .inv .1))))
 
 pub fill-spec : {M : Type 1} → statement M
 fill-spec =

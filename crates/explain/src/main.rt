@@ -1,0 +1,144 @@
+// The listing in words, for the table on standard input.
+use image::Answer;
+use image::Refusal;
+use image::Table;
+use input::Input;
+use libc::STDERR_FILENO;
+use libc::STDOUT_FILENO;
+
+const BUDGET: u32 = 1_000_000;
+
+// Three for each of 64 tasks.
+const CELLS: usize = 192;
+
+fn wide(x: u32) -> u64 {
+    x as u64
+}
+
+fn index(x: u32) -> usize {
+    x as usize
+}
+
+fn say(text: &[u8]) {
+    io::write_all(STDOUT_FILENO, text);
+}
+
+fn number(x: u64) {
+    io::print_decimal(STDOUT_FILENO, x);
+}
+
+fn ticks(x: u32) {
+    number(wide(x));
+    if x == 1 {
+        say(b" tick");
+    } else {
+        say(b" ticks");
+    }
+}
+
+// A task that has a bound.
+fn bounded(bound: u32, deadline: u32) {
+    say(b" finishes up to ");
+    ticks(bound);
+    say(b" after its event, its deadline is ");
+    number(wide(deadline));
+    if bound <= deadline {
+        say(b": in time, with ");
+        number(wide(deadline - bound));
+        say(b" to spare");
+    } else {
+        say(b": late by ");
+        number(wide(bound - deadline));
+    }
+}
+
+fn unbounded(code: u32) {
+    match code {
+        21 => say(
+            b" has no bound: it and the tasks that can delay it want more than the major frame holds",
+        ),
+        22 => say(b" has no bound: its busy time can pass the horizon of 16777215 ticks"),
+        _ => say(b" is not decided: 1000000 evaluations were not enough"),
+    }
+}
+
+fn task(row: &[u32; CELLS], k: usize, deadline: u32) {
+    if 64 <= k {
+        return;
+    }
+    say(b"task ");
+    number(k as u64);
+    let code = row[3 * k];
+    if code <= 20 {
+        bounded(row[3 * k + 1], deadline);
+    } else {
+        unbounded(code);
+    }
+    say(b"\n");
+}
+
+// The tasks of transaction u, of which the first has the number `first`.
+fn tasks(row: &[u32; CELLS], table: &[u32; Table::CELLS], u: usize) {
+    let first = index(Table::first(table, u));
+    let count = index(Table::tasks(table, u));
+    for j in 0..count {
+        if j < 64 {
+            task(row, first + j, Table::deadline(table, u, j));
+        }
+    }
+}
+
+fn every_task(row: &[u32; CELLS], table: &[u32; Table::CELLS]) {
+    let count = index(Table::transactions(table));
+    for u in 0..count {
+        tasks(row, table, u);
+    }
+}
+
+fn reason(refusal: Refusal) {
+    match refusal {
+        Refusal::EndsInside => say(b"it ends inside a field"),
+        Refusal::EditionUnknown => say(b"edition is not 1"),
+        Refusal::FrameZero => say(b"the major frame is 0"),
+        Refusal::TransactionCount => say(b"not 1 to 32 transactions"),
+        Refusal::PeriodUnfit => say(b"a period that is 0 or does not divide the major frame"),
+        Refusal::ModeCount => say(b"not 1 to 8 modes"),
+        Refusal::TaskCount => say(b"not 1 to 16 tasks in a transaction, or more than 64 in all"),
+        Refusal::DeadlineZero => say(b"a deadline of 0"),
+        Refusal::NeverRuns => say(b"a task with time 0 in every mode"),
+        Refusal::PaddingSet => say(b"a padding bit is 1"),
+        Refusal::BytesFollow => say(b"bytes follow the table"),
+    }
+}
+
+fn refused(refusal: Refusal, at: usize) {
+    say(b"image refused: ");
+    reason(refusal);
+    say(b", at bit ");
+    number(at as u64);
+    say(b"\n");
+}
+
+fn explain(image: &[u8]) {
+    let reading = image::read(image);
+    let answer = reading.answer;
+    let table = reading.table;
+    let mut row = [0u32; CELLS];
+    match answer {
+        Answer::Refused(refusal, at) => refused(refusal, at),
+        Answer::Accepted => {
+            sumpcandle::cells(image, BUDGET, &mut row);
+            every_task(&row, &table.cells);
+        }
+    }
+}
+
+fn main() {
+    let mut image = [0u8; input::LONGEST];
+    match input::take_in(&mut image) {
+        Input::Bytes(n) => explain(&image[..n]),
+        Input::Failed => {
+            io::write_all(STDERR_FILENO, b"explain: standard input cannot be read\n");
+        }
+    }
+}

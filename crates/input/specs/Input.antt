@@ -1,0 +1,8 @@
+-- What is promised of reading: the bytes counted lie in the buffer.
+use Prim.Native.Nat.{ℕ, _≤_}
+use Rattle.input.specs.declared.Input.{Input}
+use Rattle.input.specs.declared.Input.the-variants.{Bytes, Failed}
+
+abbrev pub Within : ℕ → Input → Type 0
+Within size (Bytes n) = n ≤ size
+Within size Failed = Unit {0}

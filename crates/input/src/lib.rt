@@ -1,0 +1,33 @@
+// One image from standard input. No contract can say which bytes a read gives; what is promised is that the count lies
+// within the buffer, and that a failed read is told apart from the end of the input.
+use libc::STDIN_FILENO;
+ghost use lib.ListN.{length};
+ghost use Rattle.input.specs.Input.{Within};
+
+// One byte more than the longest image, so that a longer input is seen to be too long.
+pub const LONGEST: usize = 2_522;
+
+pub enum Input {
+    // That many bytes stand in the buffer.
+    Bytes(usize),
+    Failed,
+}
+
+// Fills the buffer, to its end or to the end of the input.
+pub fn take_in(buffer: &mut [u8]) -> Input
+    ensures { λ r. ⌜ Within (length (now (buffer .exit))) r ⌝ }
+{
+    let mut n: usize = 0;
+    while n < buffer.len() {
+        let got = libc::read(STDIN_FILENO, &mut buffer[n..]);
+        if got < 0 {
+            return Input::Failed;
+        }
+        let more = io::count(got, &buffer[n..]);
+        if more == 0 {
+            return Input::Bytes(n);
+        }
+        n += more;
+    }
+    Input::Bytes(n)
+}
