@@ -28,6 +28,32 @@ pub fn inside(image: &[u8], at: usize, width: usize) -> bool
 pub fn value(image: &[u8], at: usize, width: usize) -> u32
     ensures { λ r. ⌜ r ≡ valueAt (now (image .entry)) at (min width widest) ⌝ }
 {
+    number(reader(image, at), width)
+}
+
+// An image and a place in it. The functions over it are thin, since each is proved by a walk of its own: they take it
+// apart, and leave the work to `value_at`.
+pub struct BitReader<'a> {
+    pub image: &'a [u8],
+    pub at: usize,
+}
+
+pub fn reader<'a>(image: &'a [u8], at: usize) -> BitReader<'a>
+    ensures { λ r. ⌜ (r .image ≡ image .entry) × (r .at ≡ at) ⌝ }
+{
+    BitReader { image, at }
+}
+
+// The number in the field of that width at the reader's place.
+pub fn number<'a>(r: BitReader<'a>, width: usize) -> u32
+    ensures { λ v. ⌜ v ≡ valueAt (now (r .entry .image)) (r .entry .at) (min width widest) ⌝ }
+{
+    value_at(r.image, r.at, width)
+}
+
+fn value_at(image: &[u8], at: usize, width: usize) -> u32
+    ensures { λ r. ⌜ r ≡ valueAt (now (image .entry)) at (min width widest) ⌝ }
+{
     let first = at / 8;
     let from = at % 8;
     let end = narrowed(width);

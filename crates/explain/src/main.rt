@@ -5,6 +5,7 @@ use image::Table;
 use input::Input;
 use libc::STDERR_FILENO;
 use libc::STDOUT_FILENO;
+ghost use Prim.Native.Nat.{_<_, _^_};
 
 const BUDGET: u32 = 1_000_000;
 
@@ -15,7 +16,9 @@ fn wide(x: u32) -> u64 {
     x as u64
 }
 
-fn index(x: u32) -> usize {
+fn index(x: u32) -> usize
+    ensures { λ r. ⌜ r < 2 ^ 32 ⌝ }
+{
     x as usize
 }
 

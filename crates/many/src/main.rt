@@ -4,13 +4,15 @@
 use libc::STDIN_FILENO;
 use libc::STDOUT_FILENO;
 use sumpcandle::Filled;
-
-const LONGEST: usize = 65_536;
+ghost use Prim.Native.Nat.{_<_};
 
 const CELLS: usize = 192;
 
-fn wide(x: u8) -> u32 {
-    x as u32
+// The number in two bytes.
+fn two(high: u8, low: u8) -> u32
+    ensures { λ r. ⌜ r < 65536 ⌝ }
+{
+    (high as u32) * 256 + low as u32
 }
 
 fn number(x: u32) {
@@ -20,12 +22,10 @@ fn number(x: u32) {
 
 fn accepted(row: &[u32; CELLS], tasks: usize) {
     io::write_all(STDOUT_FILENO, b"accepted");
-    let mut k: usize = 0;
-    while k < CELLS {
-        if k < 3 * tasks {
+    for k in 0..CELLS {
+        if k / 3 < tasks {
             number(row[k]);
         }
-        k += 1;
     }
     io::write_all(STDOUT_FILENO, b"\n");
 }
@@ -38,7 +38,12 @@ fn refused(told: Filled) {
     io::write_all(STDOUT_FILENO, b"\n");
 }
 
-fn answer(image: &[u8], budget: u32) {
+// Answers the first n bytes.
+fn answer(bytes: &[u8], n: usize, budget: u32) {
+    if bytes.len() < n {
+        return;
+    }
+    let image = &bytes[..n];
     let mut row = [0u32; CELLS];
     let told = sumpcandle::cells(image, budget, &mut row);
     match told {
@@ -49,23 +54,25 @@ fn answer(image: &[u8], budget: u32) {
 }
 
 // One case; false at the end of the input.
-fn case(image: &mut [u8; LONGEST]) -> bool {
+fn case(image: &mut [u8]) -> bool {
     let mut head = [0u8; 6];
     if io::read_full(STDIN_FILENO, &mut head) < 6 {
         return false;
     }
-    let budget = ((wide(head[0]) * 256 + wide(head[1])) * 256 + wide(head[2])) * 256
-        + wide(head[3]);
-    let length = (wide(head[4]) * 256 + wide(head[5])) as usize;
+    let budget = two(head[0], head[1]) * 65536 + two(head[2], head[3]);
+    let length = two(head[4], head[5]) as usize;
+    if image.len() < length {
+        return false;
+    }
     if io::read_full(STDIN_FILENO, &mut image[..length]) < length {
         return false;
     }
-    answer(&image[..length], budget);
+    answer(image, length, budget);
     true
 }
 
 fn main() {
-    let mut image = [0u8; LONGEST];
+    let mut image = io::large_buffer();
     let mut left: u32 = 4_000_000_000;
     while 0 < left {
         if case(&mut image) {

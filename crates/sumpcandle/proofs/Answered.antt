@@ -7,7 +7,7 @@ use native.Mathlib.Omega.{arith}
 use Rattle.table.specs.Table.{Table, IsTask}
 use Rattle.table.specs.Kept.{Kept}
 use Rattle.periods.specs.Charge.{imposed}
-use Rattle.analysis.specs.Overload.{Overload, overload?}
+use Rattle.analysis.specs.Overload.{overload?}
 use Rattle.analysis.specs.Order.{walkOrder}
 use Rattle.analysis.specs.Answer as definition
 use Rattle.analysis.specs.Answer.{bound, overload, beyond, spent, codeBy, cells}
@@ -18,7 +18,6 @@ use Rattle.analysis.proofs.Response.{bound-most}
 use Rattle.analysis.proofs.Answer.{answer-bound}
 use Rattle.sumpcandle.specs.declared.answers.TaskAnswer.{TaskAnswer}
 use Rattle.sumpcandle.specs.declared.answers.TaskAnswer.the-variants.{Bound, Overload as Overloaded, Beyond, Spent}
-use Rattle.sumpcandle.specs.declared.answers.TaskCells.{TaskCells}
 use Rattle.sumpcandle.specs.declared.walk.Walked.{Walked}
 use Rattle.sumpcandle.specs.declared.walk.Walked.the-variants.{Through, Past, Broke}
 use Rattle.sumpcandle.specs.Lent.{tested}

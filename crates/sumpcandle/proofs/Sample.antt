@@ -5,12 +5,28 @@ use mathlib.Core.List.{List, [], _∷_}
 use Prim.Native.Nat.{ℕ, zero, suc, _≤_}
 use native.Mathlib.Omega.{arith}
 use lib.ListN.{length, drop}
+use Rattle.bits.specs.Bits.{bitAt, valueAt}
+use Rattle.table.specs.Sum.{sum}
 use Rattle.table.specs.Table.{Table, IsTask, deadline}
 use Rattle.table.specs.Number.{number}
 use Rattle.table.specs.Kept.{Kept}
 use Rattle.table.specs.Sample.{S}
+use Rattle.image.specs.declared.answer.Answer.the-variants.{Refused}
 use Rattle.image.specs.declared.answer.Refusal.the-variants.{EndsInside}
-use Rattle.image.specs.Lists.{joined}
+use Rattle.image.specs.Answer.{_then_, firstOf, checked}
+use Rattle.image.specs.Lists.{listOf, joined}
+use Rattle.image.specs.Places.{past, start}
+use Rattle.image.specs.Said.{taskIn, transactionIn, tableIn, tasksBefore}
+use Rattle.image.specs.Fault.{
+  headerFault,
+  taskFault,
+  headFault,
+  transactionFault,
+  endFault,
+  bodyFault,
+  imageFault,
+}
+use Rattle.image.specs.Read.{IsAccepted}
 use Rattle.image.proofs.Kept.{kept}
 use Rattle.periods.specs.Charge.{imposed}
 use Rattle.analysis.specs.Answer.{Answer, bound, Cells, cells}
@@ -21,9 +37,33 @@ use Rattle.analysis.proofs.Budget.{greater-budget}
 use Rattle.sumpcandle.specs.declared.Filled.{Filled}
 use Rattle.sumpcandle.specs.declared.Filled.the-variants as filled
 use Rattle.sumpcandle.specs.Told.{listed, Owed, FillsFrom, Fills, paired, RespondsFrom, Responds}
-use Rattle.sumpcandle.specs.Cases.{imageS, S-accepted, S-table, empty-refused}
 use Rattle.sumpcandle.proofs.Told.{owed}
 use Rattle.sumpcandle.proofs.Agree.{written-joined, fills-unique, responds-unique}
+
+-- one name that opens every definition on the way from bytes to a table
+reading : Unit {0}
+unfolding bitAt valueAt sum _then_ firstOf checked listOf past start taskIn transactionIn tableIn tasksBefore headerFault taskFault headFault transactionFault endFault bodyFault imageFault
+reading = tt
+
+-- the image of S
+abbrev pub imageS : List ℕ
+imageS =
+    0x10 ∷ 0x00 ∷ 0x01 ∷ 0x40 ∷ 0x80 ∷ 0x00 ∷ 0x05 ∷ 0x04 ∷ 0x40 ∷ 0x00 ∷ 0x00 ∷ 0x00 ∷ 0x00 ∷ 0x00 ∷ 0x00 ∷ 0x00
+    ∷ 0x00 ∷ 0x00 ∷ 0x00 ∷ 0x00 ∷ 0x50 ∷ 0x48 ∷ 0x00 ∷ 0x00 ∷ 0x10 ∷ 0x00 ∷ 0x00 ∷ 0x20 ∷ 0x00 ∷ 0x00 ∷ 0x00 ∷ 0x00
+    ∷ 0x00 ∷ 0x00 ∷ 0x00 ∷ 0x00 ∷ 0x14 ∷ 0x10 ∷ 0x00 ∷ 0x00 ∷ 0x06 ∷ 0x00 ∷ 0x00 ∷ 0x28 ∷ 0x21 ∷ 0x00 ∷ 0x00 ∷ 0x00
+    ∷ 0x00 ∷ 0x00 ∷ 0x00 ∷ 0x00 ∷ 0x00 ∷ 0x00 ∷ 0x00 ∷ 0x00 ∷ 0x01 ∷ 0x00 ∷ 0x40 ∷ 0x00 ∷ 0x00 ∷ 0x80 ∷ []
+
+S-accepted : IsAccepted imageS
+unfolding reading
+S-accepted = refl
+
+S-table : tableIn imageS ≡ S
+unfolding reading
+S-table = refl
+
+empty-refused : imageFault [] ≡ Refused EndsInside 0
+unfolding reading
+empty-refused = refl
 
 S-kept : Kept S
 S-kept = rw S-table at (kept imageS S-accepted)

@@ -3,4 +3,3 @@ pub mod Quantity
 pub mod Turn
 pub mod Told
 pub mod Answered
-pub mod Cases

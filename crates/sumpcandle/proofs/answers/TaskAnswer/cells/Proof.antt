@@ -1,6 +1,6 @@
 -- `TaskAnswer::cells` gives document 01's code, bound and evaluations of each answer: the test against the deadline is the
 -- one that decides between 0 and 20.
-use mathlib.Core.Path.{sym}
+use mathlib.Core.Path.{sym, ap}
 use native.Mathlib.Omega.{arith}
 use borrow.Author.Needs.{needs}
 use Rattle.analysis.specs.Answer.{cells}
@@ -33,15 +33,15 @@ returns-2 c =
 
 returns-3 : tie.Need-returns-3
 unfolding cellsFor cells meant
-returns-3 c = rw (c .enum-told .given .1)
+returns-3 c = sym (ap (cellsFor (c .before .before .args .deadline)) (c .enum-told .given .1))
 
 returns-4 : tie.Need-returns-4
 unfolding cellsFor cells meant
-returns-4 c = rw (c .before .self2 .given .1)
+returns-4 c = sym (ap (cellsFor (c .before .before .before .args .deadline)) (c .before .self2 .given .1))
 
 returns-5 : tie.Need-returns-5
 unfolding cellsFor cells meant
-returns-5 c = rw (c .before .self3 .given .1)
+returns-5 c = sym (ap (cellsFor (c .before .before .before .args .deadline)) (c .before .self3 .given .1))
 
 pub cells-spec : {M : Type 1} → statement M
 cells-spec =
