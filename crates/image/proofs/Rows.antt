@@ -72,6 +72,13 @@ module _ (tab : Table) where
         getD-padded rowCells _ (tasksCell + i)
         ∙ (rw wide at (getD-append-add (padded tasksCell front) (joined (transactions tab) tasksOf) i 0))
 
+    -- a row has its cells and no more
+    pub row-size : length (rowOf tab) ≡ rowCells
+    unfolding rowOf inAll
+    row-size =
+        length-padded rowCells _
+        (rw (length-append (padded tasksCell front), wide, length-tasksOf (transactions tab)) (omega (arith, kept .fewTasks)))
+
     pub row-in-all : getD (rowOf tab) inAllCell 0 ≡ inAll tab
     unfolding ofHeader
     row-in-all = in-front inAllCell (omega arith)

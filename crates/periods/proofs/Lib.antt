@@ -3,3 +3,4 @@ pub mod Congruence
 pub mod Phase
 pub mod Charge
 pub mod Slide
+pub mod Split

@@ -21,11 +21,6 @@ tested-no (no f) h = refl
 never : false ≡ true → ⊥
 never e = let z : _≡_ {A = ℕ} 0 1 = cc in omega arith
 
-pub when-true : {A : Type 0} (d : Dec A) (x : ℕ) → tested d ≡ true → when d x ≡ x
-unfolding tested when
-when-true (yes a) x e = refl
-when-true (no f) x e = absurd (never e)
-
 pub when-false : {A : Type 0} (d : Dec A) (x : ℕ) → tested d ≡ false → when d x ≡ 0
 unfolding tested when
 when-false (yes a) x e = absurd (never (sym e))

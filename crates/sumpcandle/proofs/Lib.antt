@@ -4,6 +4,8 @@ pub mod Agree
 pub mod Sample
 pub mod Fields
 pub mod Ranges
+pub mod Split
+pub mod Readings
 pub mod Phases
 pub mod Flags
 pub mod Loads
@@ -11,3 +13,5 @@ pub mod Signed
 pub mod Chain
 pub mod Turns
 pub mod Walks
+pub mod Filling
+pub mod Weighing

@@ -18,19 +18,19 @@ use native.Mathlib.Numerals.{add-one}
 use native.Mathlib.Decide.{decLt, ℕ-discrete}
 use native.Mathlib.Omega.{arith}
 use Rattle.table.specs.Sum.{sum}
-use Rattle.table.specs.Limits.{transactionsMost, tasksMost}
+use Rattle.table.specs.Limits.{transactionsMost, modesMost, tasksMost}
 use Rattle.table.specs.Table.{Table, IsTask, transactions, period, modes, tasks, task, offset, jitter, time}
 use Rattle.table.specs.Kept.{Kept}
 use Rattle.periods.specs.Phase.{held}
 use Rattle.periods.proofs.Phase.{phase-lt}
-use Rattle.periods.proofs.Charge.{imp, rel, imposed-is, released-is, imp≤rel, ceil-le}
+use Rattle.periods.proofs.Charge.{rel, imposed-is, released-is, imp≤rel, ceil-le}
 use Rattle.analysis.specs.Choice.{when, unless, most}
 use Rattle.analysis.specs.Rival.{rival?}
 use Rattle.analysis.specs.Charge.{phaseOf, heldOf, taskCharge, charge, greatest, rivals}
 use Rattle.analysis.proofs.Choice.{when-le, most-le}
 use Rattle.analysis.proofs.Charges.{kept-period}
 use Rattle.sumpcandle.specs.Lent.{longest}
-use Rattle.sumpcandle.specs.Quantity.{laterOf, later}
+use Rattle.sumpcandle.specs.Quantity.{laterOf}
 
 -- ---- sums and greatest as a loop makes them
 
@@ -73,6 +73,10 @@ module _ {tab : Table} (kept : Kept tab) {i : ℕ} (h : i < transactions tab) wh
   unfolding tasks
   tasks-few = kept .each i h .fewTasks
 
+  pub modes-few : modes tab i ≤ modesMost
+  unfolding modes
+  modes-few = kept .each i h .fewModes
+
 module _ {tab : Table} (kept : Kept tab) {i j : ℕ} (t : IsTask tab i j) where
   pub offset-lt : offset tab i j < 2 ^ 24
   unfolding offset task tasks
@@ -98,26 +102,16 @@ module _ {tab : Table} (kept : Kept tab) {i j : ℕ} (t : IsTask tab i j) where
 
 -- ---- charges
 
--- the charge of later jobs by the ticks since the phase, cut at 0
-pub later-is : (whole : Bool) (T C t φ : ℕ) → laterOf whole T C (pos t -ℤ pos φ) ≡ later whole T C (t - φ)
-unfolding rel imp
-later-is true T C t φ = released-is T C t φ
-later-is false T C t φ = imposed-is T C t φ
+-- later jobs charge at most a job for each tick
 
--- which is at most a job for each tick
-
-rel-le : {T : ℕ} (C s : ℕ) → 0 < T → rel T C s ≤ s * C
+rel-le : {T : ℕ} (C t φ : ℕ) → 0 < T → rel T C (t - φ) ≤ t * C
 unfolding rel
-rel-le C s h = mul-le-mul-right C (ceil-le h s s (le-mul-of-pos-right s h))
+rel-le C t φ h =
+    le-trans (mul-le-mul-right C (ceil-le h (t - φ) (t - φ) (le-mul-of-pos-right (t - φ) h))) (mul-le-mul-right {m = t - φ} {n = t} C (omega arith))
 
-later-le : (whole : Bool) {T : ℕ} (C s : ℕ) → 0 < T → later whole T C s ≤ s * C
-unfolding rel imp
-later-le true C s h = rel-le C s h
-later-le false C s h = le-trans (imp≤rel h C s) (rel-le C s h)
-
-pub later-most : (whole : Bool) {T C s : ℕ} → 0 < T → C < 2 ^ 24 → s < 2 ^ 25 → later whole T C s ≤ 2 ^ 49
-later-most whole {C} {s} h c l =
-    le-trans (later-le whole C s h) (mul-le-mul {n₂ = 2 ^ 25} {m₂ = 2 ^ 24} (omega arith) (omega arith))
+later-le : (whole : Bool) {T : ℕ} (C t φ : ℕ) → 0 < T → laterOf whole T C (pos t -ℤ pos φ) ≤ t * C
+later-le true {T} C t φ h = rw (released-is T C t φ) (rel-le C t φ h)
+later-le false {T} C t φ h = rw (imposed-is T C t φ) (le-trans (imp≤rel h C (t - φ)) (rel-le C t φ h))
 
 unless-le : {A : Type 0} (d : Dec A) (x : ℕ) → unless d x ≤ x
 unfolding unless
@@ -126,7 +120,7 @@ unless-le (no h) x = le-refl x
 
 -- ---- what the loops add up or compare: the charge of a rival, of a candidate, of a mode and of another transaction
 
-abbrev pub rivalCharge : Bool → Table → (u a i m c t j : ℕ) → ℕ
+abbrev rivalCharge : Bool → Table → (u a i m c t j : ℕ) → ℕ
 rivalCharge whole tab u a i m c t j = when (rival? tab u a i m j) (taskCharge (laterOf whole) tab i m c t j)
 
 abbrev pub candidateCharge : Bool → Table → (u a i m t c : ℕ) → ℕ
@@ -147,18 +141,18 @@ chargeMost = tasksMost * taskMost
 
 module _ {tab : Table} (kept : Kept tab) where
   module _ {i m j : ℕ} (isTask : IsTask tab i j) (mode : m < modes tab i) (c : ℕ) where
-    pub held-charge-le : heldOf tab i c j * time tab i m j ≤ 2 ^ 49
+    held-charge-le : heldOf tab i c j * time tab i m j ≤ 2 ^ 49
     held-charge-le =
         mul-le-mul {n₂ = 2 ^ 25} {m₂ = 2 ^ 24} (omega (arith, held-of-lt kept isTask c)) (omega (arith, time-lt kept isTask mode))
 
-    pub task-charge-le : (whole : Bool) {t : ℕ} → t ≤ longest → taskCharge (laterOf whole) tab i m c t j ≤ taskMost
+    task-charge-le : (whole : Bool) {t : ℕ} → t ≤ longest → taskCharge (laterOf whole) tab i m c t j ≤ taskMost
     unfolding taskCharge
     task-charge-le whole {t} short =
         omega (
           arith,
           held-charge-le,
-          later-is whole (period tab i) (time tab i m j) t (phaseOf tab i c j),
-          later-most whole {s = t - phaseOf tab i c j} (kept-period kept (isTask .owner)) (time-lt kept isTask mode) (omega arith),
+          later-le whole (time tab i m j) t (phaseOf tab i c j) (kept-period kept (isTask .owner)),
+          mul-le-mul {n₁ = t} {m₁ = time tab i m j} {n₂ = 2 ^ 24} {m₂ = 2 ^ 24} (omega arith) (omega (arith, time-lt kept isTask mode)),
         )
 
   module _ (whole : Bool) {t : ℕ} (short : t ≤ longest) (u a : ℕ) where
@@ -166,10 +160,6 @@ module _ {tab : Table} (kept : Kept tab) where
       rival-charge-le : (j : ℕ) → j < tasks tab i → rivalCharge whole tab u a i m c t j ≤ taskMost
       rival-charge-le j l =
           le-trans (when-le (rival? tab u a i m j) _) (task-charge-le (record { owner = h; place = l }) mode c whole short)
-
-      -- the rivals up to j
-      pub charge-room : (j : ℕ) → j < tasks tab i → sum j (rivalCharge whole tab u a i m c t) + rivalCharge whole tab u a i m c t j ≤ chargeMost
-      charge-room j l = omega (arith, sum-room j rival-charge-le l, tasks-few kept h)
 
       charge-le : charge (laterOf whole) tab u a i m c t ≤ chargeMost
       unfolding charge

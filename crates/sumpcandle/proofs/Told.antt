@@ -32,7 +32,7 @@ use Rattle.analysis.proofs.Answer.{answers, answers-unique}
 use Rattle.analysis.proofs.Budget.{greater-budget}
 use Rattle.analysis.proofs.Demand.{answer-safe}
 use Rattle.sumpcandle.specs.declared.answers.TaskCells.{TaskCells}
-use Rattle.sumpcandle.specs.Lent.{Lent}
+use Rattle.sumpcandle.specs.Parts.{RowOfTable}
 use Rattle.sumpcandle.specs.Answered.{CellsAt, stored}
 use Rattle.sumpcandle.specs.Told.{cellsOfTask, cellsIn, Owed, Written, paired, RespondsFrom}
 
@@ -47,7 +47,7 @@ module _ (image cells : List ℕ) (ok : IsAccepted image) (read : cells ≡ rowF
   read-table = ap tableOf is-row ∙ image-row-holds image ok
 
   -- and nothing else
-  pub read-lent : Lent cells
+  pub read-lent : RowOfTable cells
   read-lent = record { kept = rw read-table (kept image ok); isRow = ap rowOf read-table ∙ sym is-row }
 
 -- the place of a refusal fits 32 bits
@@ -125,9 +125,9 @@ pub cells-owed :
     → Owed tab u a budget (told r)
 cells-owed {tab} keeps {budget = budget} {r = r} x {u} {a} isTask e =
     let y = x .isSubjectAt in
-    let (p, q) = number-unique tab (y .isSubject .isTask) isTask (y .numbered ∙ sym e) in
+    let (p, q) = number-unique tab (y .chosen .isTask) isTask (y .numbered ∙ sym e) in
     subst₂ (λ (v b : ℕ). Owed tab v b budget (told r)) p q
-    (subst (Owed tab (x .s .u) (x .s .a) budget) (sym (ap told (x .is))) (owed keeps (y .isSubject .isTask) budget))
+    (subst (Owed tab (x .s .u) (x .s .a) budget) (sym (ap told (x .is))) (owed keeps (y .chosen .isTask) budget))
 
 -- so the C host's number is made of them
 pub cells-respond :
@@ -138,7 +138,7 @@ pub cells-respond :
     → RespondsFrom tab k budget (paired (r .code) (r .bound))
 cells-respond keeps x =
     let y = x .isSubjectAt in
-    RespondsFrom.told (y .isSubject .isTask) (y .numbered) (cells-owed keeps x (y .isSubject .isTask) (y .numbered))
+    RespondsFrom.told (y .chosen .isTask) (y .numbered) (cells-owed keeps x (y .chosen .isTask) (y .numbered))
 
 -- ---- one task's cells, stored in a row
 

@@ -4,7 +4,6 @@ use mathlib.Core.List.{List}
 use Prim.Native.Nat.{ℕ, _+_, _*_}
 use lib.ListN.{set}
 use Rattle.table.specs.Table.{Table, deadline}
-use Rattle.table.specs.Number.{number}
 use Rattle.periods.specs.Charge.{imposed}
 use Rattle.analysis.specs.Answer as definition
 use Rattle.analysis.specs.Answer.{bound, overload, beyond, spent, cells}
@@ -13,7 +12,7 @@ use Rattle.sumpcandle.specs.declared.charges.Subject.{Subject}
 use Rattle.sumpcandle.specs.declared.answers.TaskAnswer.{TaskAnswer}
 use Rattle.sumpcandle.specs.declared.answers.TaskAnswer.the-variants.{Bound, Overload, Beyond, Spent}
 use Rattle.sumpcandle.specs.declared.answers.TaskCells.{TaskCells}
-use Rattle.sumpcandle.specs.Lent.{IsSubject}
+use Rattle.sumpcandle.specs.Parts.{IsSubjectAt}
 use Rattle.sumpcandle.specs.Told.{cellsOfTask}
 
 -- the answer as the code's enum
@@ -36,11 +35,6 @@ written c = record { code = c .code; bound = c .bound; evaluations = c .evaluati
 
 unfoldable pub cellsFor : ℕ → TaskAnswer → TaskCells
 cellsFor D x = written (cells D (meant x))
-
--- s is the task with number k
-pub record IsSubjectAt (tab : Table) (k : ℕ) (s : Subject) : Type 0 where
-  pub isSubject : IsSubject tab s
-  pub numbered : number tab (s .u) (s .a) ≡ k
 
 -- r holds the cells of the task with number k
 pub record CellsAt (tab : Table) (k budget : ℕ) (r : TaskCells) : Type 0 where

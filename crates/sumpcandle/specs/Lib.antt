@@ -3,3 +3,6 @@ pub mod Quantity
 pub mod Turn
 pub mod Told
 pub mod Answered
+pub mod Work
+pub mod Parts
+pub mod Split

@@ -1,9 +1,10 @@
 // A task's answer and its three cells.
 use super::charges::Subject;
+use super::layout::Work;
 use super::overload;
-use super::row;
 use super::walk::Walk;
 use super::walk::Walked;
+use super::work;
 use image::Table;
 ghost use mathlib.Core.Path.{_≡_};
 ghost use Prim.Native.Nat.{_<_};
@@ -11,8 +12,9 @@ ghost use Rattle.image.specs.Row.{tableOf};
 ghost use Rattle.table.specs.Number.{inAll};
 ghost use Rattle.periods.specs.Charge.{imposed};
 ghost use Rattle.analysis.specs.Walk.{answer};
-ghost use Rattle.sumpcandle.specs.Lent.{Lent, IsSubject};
-ghost use Rattle.sumpcandle.specs.Answered.{answered, cellsFor, IsSubjectAt, CellsAt};
+ghost use Rattle.sumpcandle.specs.Work.{Lent, IsSubject, tableAt};
+ghost use Rattle.sumpcandle.specs.Parts.{RowOfTable};
+ghost use Rattle.sumpcandle.specs.Answered.{answered, cellsFor, CellsAt};
 
 pub(crate) enum TaskAnswer {
     // The bound, and the evaluations.
@@ -83,10 +85,10 @@ impl TaskAnswer {
 }
 
 // The answer of the subject under a budget.
-fn answer(row: &[u32; Table::CELLS], s: Subject, budget: u32) -> TaskAnswer
+fn answer(row: &[u32; Work::CELLS], s: Subject, budget: u32) -> TaskAnswer
     requires { ⌜ Lent (now row) ⌝ }
-    requires { ⌜ IsSubject (tableOf (now row)) s ⌝ }
-    ensures { λ r. ⌜ r ≡ answered (answer imposed (tableOf (now (row .entry))) (s .u) (s .a) budget) ⌝ }
+    requires { ⌜ IsSubject (now row) s ⌝ }
+    ensures { λ r. ⌜ r ≡ answered (answer imposed (tableAt (now (row .entry))) (s .u) (s .a) budget) ⌝ }
 {
     if overload::is_overload(row, s) {
         return TaskAnswer::Overload;
@@ -98,27 +100,22 @@ fn answer(row: &[u32; Table::CELLS], s: Subject, budget: u32) -> TaskAnswer
     }
 }
 
-// The task with number k.
-fn subject(row: &[u32; Table::CELLS], k: usize) -> Subject
+// The cells of the task with number k, with a working row of the table that may be another task's.
+pub(crate) fn task_cells(
+    table: &[u32; Table::CELLS],
+    row: &mut [u32; Work::CELLS],
+    k: usize,
+    budget: u32,
+) -> TaskCells
+    requires { ⌜ RowOfTable (now table) ⌝ }
     requires { ⌜ Lent (now row) ⌝ }
-    requires { ⌜ k < inAll (tableOf (now row)) ⌝ }
-    ensures { λ r. ⌜ IsSubjectAt (tableOf (now (row .entry))) k r ⌝ }
+    requires { ⌜ tableAt (now row) ≡ tableOf (now table) ⌝ }
+    requires { ⌜ k < inAll (tableOf (now table)) ⌝ }
+    ensures { λ r. ⌜ CellsAt (tableOf (now (table .entry))) k budget r ⌝ }
+    ensures { λ _. ⌜ Lent (now (row .exit)) ⌝ }
+    ensures { λ _. ⌜ tableAt (now (row .exit)) ≡ tableOf (now (table .entry)) ⌝ }
 {
-    let u = row::owner(row, k);
-    let a = k - row::before(row, u);
-    Subject {
-        u,
-        a,
-        priority: row::priority(row, u, a),
-    }
-}
-
-// The cells of the task with number k.
-pub(crate) fn task_cells(row: &[u32; Table::CELLS], k: usize, budget: u32) -> TaskCells
-    requires { ⌜ Lent (now row) ⌝ }
-    requires { ⌜ k < inAll (tableOf (now row)) ⌝ }
-    ensures { λ r. ⌜ CellsAt (tableOf (now (row .entry))) k budget r ⌝ }
-{
-    let s = subject(row, k);
-    answer(row, s, budget).cells(row::deadline(row, s.u, s.a))
+    let s = work::task(table, k);
+    work::weigh(table, row, s);
+    answer(&*row, s, budget).cells(Table::deadline(table, s.u, s.a))
 }

@@ -2,6 +2,7 @@
 // in; the budget is looked at before it, the horizon after it.
 use super::charges;
 use super::charges::Subject;
+use super::layout::Work;
 use super::quantity::JobNumber;
 use super::quantity::Ticks;
 use super::row;
@@ -9,16 +10,16 @@ use image::Table;
 ghost use mathlib.Core.Path.{_≡_};
 ghost use lib.IntN.{pos, _+ℤ_, _-ℤ_};
 ghost use Prim.Native.Nat.{_+_, _*_, _-_, _<_, _≤_, _^_};
-ghost use Rattle.image.specs.Row.{tableOf};
 ghost use Rattle.periods.specs.Phase.{ceiling};
 ghost use Rattle.periods.specs.Charge.{imposed};
 ghost use Rattle.analysis.specs.Choice.{count};
 ghost use Rattle.analysis.specs.Bound.{Setting, demand, busy};
 ghost use Rattle.analysis.specs.Needed.{start};
 ghost use Rattle.analysis.specs.Walk.{chain, beyond?, never?};
-ghost use Rattle.sumpcandle.specs.Lent.{Lent, IsSubject, longest};
+ghost use Rattle.sumpcandle.specs.Lent.{longest};
 ghost use Rattle.sumpcandle.specs.Quantity.{laterOf};
 ghost use Rattle.sumpcandle.specs.Turn.{IsTurn, Near, Reaches, stopped};
+ghost use Rattle.sumpcandle.specs.Work.{Lent, IsSubject, tableAt};
 
 // One turn of the walk: a mode and a candidate, with what of the subject they fix.
 pub(crate) struct Turn {
@@ -47,11 +48,11 @@ fn first_job(held: u64) -> JobNumber
     JobNumber(1 - held as i64)
 }
 
-pub(crate) fn turn_of(row: &[u32; Table::CELLS], s: Subject, m: usize, c: usize) -> Turn
+pub(crate) fn turn_of(row: &[u32; Work::CELLS], s: Subject, m: usize, c: usize) -> Turn
     requires { ⌜ Lent (now row) ⌝ }
-    requires { ⌜ IsSubject (tableOf (now row)) s ⌝ }
-    requires { ⌜ Setting (tableOf (now row)) (s .u) (s .a) m c ⌝ }
-    ensures { λ r. ⌜ IsTurn (tableOf (now (row .entry))) (s .u) (s .a) m c r ⌝ }
+    requires { ⌜ IsSubject (now row) s ⌝ }
+    requires { ⌜ Setting (tableAt (now row)) (s .u) (s .a) m c ⌝ }
+    ensures { λ r. ⌜ IsTurn (tableAt (now (row .entry))) (s .u) (s .a) m c r ⌝ }
 {
     Turn {
         mode: m,
@@ -106,7 +107,7 @@ fn start(x: Turn, p: JobNumber) -> Ticks
 
 // The demand of the jobs to p, and of the rivals, at t.
 pub(crate) fn demand(
-    row: &[u32; Table::CELLS],
+    row: &[u32; Work::CELLS],
     s: Subject,
     x: Turn,
     whole: bool,
@@ -114,23 +115,23 @@ pub(crate) fn demand(
     t: Ticks,
 ) -> Ticks
     requires { ⌜ Lent (now row) ⌝ }
-    requires { ⌜ IsSubject (tableOf (now row)) s ⌝ }
-    requires { ⌜ IsTurn (tableOf (now row)) (s .u) (s .a) (x .mode) (x .candidate) x ⌝ }
+    requires { ⌜ IsSubject (now row) s ⌝ }
+    requires { ⌜ IsTurn (tableAt (now row)) (s .u) (s .a) (x .mode) (x .candidate) x ⌝ }
     requires { ⌜ Near (p .0) ⌝ }
     requires { ⌜ t .0 ≤ longest ⌝ }
-    ensures { λ r. ⌜ r .0 ≡ demand (laterOf whole) (tableOf (now (row .entry))) (s .u) (s .a) (x .mode) (x .candidate) (p .0) (t .0) ⌝ }
+    ensures { λ r. ⌜ r .0 ≡ demand (laterOf whole) (tableAt (now (row .entry))) (s .u) (s .a) (x .mode) (x .candidate) (p .0) (t .0) ⌝ }
 {
     Ticks(start(x, p).0 + charges::rivals(row, s, whole, x.mode, x.candidate, t).0)
 }
 
 // The demand by t of all jobs up to t, charged at their release.
-fn busy(row: &[u32; Table::CELLS], s: Subject, x: Turn, t: Ticks) -> Ticks
+fn busy(row: &[u32; Work::CELLS], s: Subject, x: Turn, t: Ticks) -> Ticks
     requires { ⌜ Lent (now row) ⌝ }
-    requires { ⌜ IsSubject (tableOf (now row)) s ⌝ }
-    requires { ⌜ IsTurn (tableOf (now row)) (s .u) (s .a) (x .mode) (x .candidate) x ⌝ }
+    requires { ⌜ IsSubject (now row) s ⌝ }
+    requires { ⌜ IsTurn (tableAt (now row)) (s .u) (s .a) (x .mode) (x .candidate) x ⌝ }
     requires { ⌜ 1 ≤ t .0 ⌝ }
     requires { ⌜ t .0 ≤ longest ⌝ }
-    ensures { λ r. ⌜ r .0 ≡ busy (tableOf (now (row .entry))) (s .u) (s .a) (x .mode) (x .candidate) (t .0) ⌝ }
+    ensures { λ r. ⌜ r .0 ≡ busy (tableAt (now (row .entry))) (s .u) (s .a) (x .mode) (x .candidate) (t .0) ⌝ }
 {
     let period = x.period;
     let phase = x.phase;
@@ -139,17 +140,17 @@ fn busy(row: &[u32; Table::CELLS], s: Subject, x: Turn, t: Ticks) -> Ticks
 
 // The chain for L: it starts at 1, and ends where t comes back or the value exceeds the horizon.
 pub(crate) fn busy_chain(
-    row: &[u32; Table::CELLS],
+    row: &[u32; Work::CELLS],
     s: Subject,
     x: Turn,
     budget: u32,
     used: u32,
 ) -> Stop
     requires { ⌜ Lent (now row) ⌝ }
-    requires { ⌜ IsSubject (tableOf (now row)) s ⌝ }
-    requires { ⌜ IsTurn (tableOf (now row)) (s .u) (s .a) (x .mode) (x .candidate) x ⌝ }
+    requires { ⌜ IsSubject (now row) s ⌝ }
+    requires { ⌜ IsTurn (tableAt (now row)) (s .u) (s .a) (x .mode) (x .candidate) x ⌝ }
     requires { ⌜ used ≤ budget ⌝ }
-    ensures { λ r. ⌜ r ≡ stopped budget (chain (busy (tableOf (now (row .entry))) (s .u) (s .a) (x .mode) (x .candidate)) beyond? (budget - used) 1) ⌝ }
+    ensures { λ r. ⌜ r ≡ stopped budget (chain (busy (tableAt (now (row .entry))) (s .u) (s .a) (x .mode) (x .candidate)) beyond? (budget - used) 1) ⌝ }
 {
     let horizon = row::wide(Table::horizon());
     let mut made = used;
@@ -170,7 +171,7 @@ pub(crate) fn busy_chain(
 
 // The chain of job p: it starts at B + (p − p0 + 1)·C, and ends where t comes back.
 pub(crate) fn job_chain(
-    row: &[u32; Table::CELLS],
+    row: &[u32; Work::CELLS],
     s: Subject,
     x: Turn,
     p: JobNumber,
@@ -178,12 +179,12 @@ pub(crate) fn job_chain(
     used: u32,
 ) -> Stop
     requires { ⌜ Lent (now row) ⌝ }
-    requires { ⌜ IsSubject (tableOf (now row)) s ⌝ }
-    requires { ⌜ IsTurn (tableOf (now row)) (s .u) (s .a) (x .mode) (x .candidate) x ⌝ }
+    requires { ⌜ IsSubject (now row) s ⌝ }
+    requires { ⌜ IsTurn (tableAt (now row)) (s .u) (s .a) (x .mode) (x .candidate) x ⌝ }
     requires { ⌜ Near (p .0) ⌝ }
-    requires { ⌜ Reaches (tableOf (now row)) (s .u) (s .a) (x .mode) (x .candidate) (p .0) ⌝ }
+    requires { ⌜ Reaches (tableAt (now row)) (s .u) (s .a) (x .mode) (x .candidate) (p .0) ⌝ }
     requires { ⌜ used ≤ budget ⌝ }
-    ensures { λ r. ⌜ r ≡ stopped budget (chain (demand imposed (tableOf (now (row .entry))) (s .u) (s .a) (x .mode) (x .candidate) (p .0)) never? (budget - used) (start (tableOf (now (row .entry))) (s .u) (s .a) (x .mode) (x .candidate) (p .0))) ⌝ }
+    ensures { λ r. ⌜ r ≡ stopped budget (chain (demand imposed (tableAt (now (row .entry))) (s .u) (s .a) (x .mode) (x .candidate) (p .0)) never? (budget - used) (start (tableAt (now (row .entry))) (s .u) (s .a) (x .mode) (x .candidate) (p .0))) ⌝ }
 {
     let mut made = used;
     let mut t = start(x, p).0;

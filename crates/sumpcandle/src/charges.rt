@@ -1,19 +1,24 @@
 // Interference: what the rivals of the task under analysis charge by t. `whole` charges jobs whole at their release;
-// otherwise they charge what they impose. What lies below `rivals` may become faster; its contract stays.
+// otherwise they charge what they impose. Phases, weights, loads and held-back sums are read from the working row, and t
+// is split by the period once for each transaction. What lies below `rivals` may become faster; its contract stays.
+use super::layout::Work;
 use super::quantity::Ticks;
 use super::row;
 use image::Table;
+use image::Transaction;
 ghost use mathlib.Core.Path.{_≡_};
-ghost use Prim.Native.Nat.{_+_, _<_, _≤_, _^_, _-_, max};
+ghost use Prim.Native.Nat.{_+_, _*_, _<_, _≤_, _^_, _-_, min, max};
 ghost use native.Mathlib.Decide.{ℕ-discrete};
-ghost use Rattle.image.specs.Row.{tableOf};
+ghost use Rattle.table.specs.Limits.{tasksMost, tasksInAll};
+ghost use Rattle.table.specs.Number.{number};
 ghost use Rattle.table.specs.Table.{IsTask, transactions, modes, tasks};
-ghost use Rattle.periods.specs.Phase.{phase};
 ghost use Rattle.analysis.specs.Choice.{when, unless, most};
 ghost use Rattle.analysis.specs.Rival.{rival?};
-ghost use Rattle.analysis.specs.Charge.{phaseOf, heldOf, taskCharge, charge, greatest, rivals};
-ghost use Rattle.sumpcandle.specs.Lent.{Lent, IsSubject, tested, longest};
-ghost use Rattle.sumpcandle.specs.Quantity.{laterOf, later};
+ghost use Rattle.analysis.specs.Charge.{phaseOf, heldOf, charge, greatest, rivals};
+ghost use Rattle.sumpcandle.specs.Lent.{tested, longest};
+ghost use Rattle.sumpcandle.specs.Quantity.{laterOf};
+ghost use Rattle.sumpcandle.specs.Split.{moment, IsSplit, IsSplitAt, wholePeriods, restOf, rests};
+ghost use Rattle.sumpcandle.specs.Work.{Holds, Lent, Chosen, IsSubject, tableAt, weight, weights, heldBack};
 
 // The task under analysis: task a of transaction u, with its priority.
 pub(crate) struct Subject {
@@ -22,98 +27,44 @@ pub(crate) struct Subject {
     pub(crate) priority: u32,
 }
 
-// (offset − instant) mod period
-fn phase(period: u64, offset: u64, instant: u64) -> u64
-    requires { ⌜ 0 < period ⌝ }
-    ensures { λ r. ⌜ r ≡ phase period offset instant ⌝ }
+// Where task j of transaction i stands among the phases and the held-back jobs, when candidate c sets the instant.
+fn place(row: &[u32; Work::CELLS], i: usize, c: usize, j: usize) -> usize
+    requires { ⌜ Holds (now row) ⌝ }
+    requires { ⌜ IsTask (tableAt (now row)) i c ⌝ }
+    requires { ⌜ IsTask (tableAt (now row)) i j ⌝ }
+    ensures place { λ r. ⌜ r ≡ tasksMost * number (tableAt (now (row .entry))) i c + j ⌝ }
+    ensures within { λ r. ⌜ r < tasksInAll * tasksMost ⌝ }
 {
-    let from = instant % period;
-    let to = offset % period;
-    if from <= to {
-        to - from
-    } else {
-        to + (period - from)
-    }
-}
-
-// The charge of the jobs that arrive after the phase, `since` ticks after the first of them.
-fn later(whole: bool, period: u64, time: u64, since: u64) -> u64
-    requires { ⌜ 0 < period ⌝ }
-    requires { ⌜ period < 2 ^ 24 ⌝ }
-    requires { ⌜ time < 2 ^ 24 ⌝ }
-    requires { ⌜ since < 2 ^ 25 ⌝ }
-    ensures { λ r. ⌜ r ≡ later whole period time since ⌝ }
-{
-    if whole {
-        return (since + (period - 1)) / period * time;
-    }
-    let rest = since % period;
-    if rest < time {
-        since / period * time + rest
-    } else {
-        since / period * time + time
-    }
-}
-
-fn after(t: u64, phase: u64) -> u64
-    ensures { λ r. ⌜ r ≡ t - phase ⌝ }
-{
-    if phase < t { t - phase } else { 0 }
+    Transaction::TASKS * (row::before(row, i) + c) + j
 }
 
 // Phase of task j when candidate c sets the critical instant.
-pub(crate) fn phase_of(row: &[u32; Table::CELLS], i: usize, c: usize, j: usize) -> u64
+pub(crate) fn phase_of(row: &[u32; Work::CELLS], i: usize, c: usize, j: usize) -> u64
     requires { ⌜ Lent (now row) ⌝ }
-    requires { ⌜ IsTask (tableOf (now row)) i c ⌝ }
-    requires { ⌜ IsTask (tableOf (now row)) i j ⌝ }
-    ensures { λ r. ⌜ r ≡ phaseOf (tableOf (now (row .entry))) i c j ⌝ }
+    requires { ⌜ IsTask (tableAt (now row)) i c ⌝ }
+    requires { ⌜ IsTask (tableAt (now row)) i j ⌝ }
+    ensures { λ r. ⌜ r ≡ phaseOf (tableAt (now (row .entry))) i c j ⌝ }
 {
-    phase(
-        row::period(row, i),
-        row::offset(row, i, j),
-        row::offset(row, i, c) + row::jitter(row, i, c),
-    )
+    row::wide(row[Work::PHASES + place(row, i, c, j)])
 }
 
 // Jobs of task j held back to the instant.
-pub(crate) fn held_of(row: &[u32; Table::CELLS], i: usize, c: usize, j: usize) -> u64
+pub(crate) fn held_of(row: &[u32; Work::CELLS], i: usize, c: usize, j: usize) -> u64
     requires { ⌜ Lent (now row) ⌝ }
-    requires { ⌜ IsTask (tableOf (now row)) i c ⌝ }
-    requires { ⌜ IsTask (tableOf (now row)) i j ⌝ }
-    ensures { λ r. ⌜ r ≡ heldOf (tableOf (now (row .entry))) i c j ⌝ }
+    requires { ⌜ IsTask (tableAt (now row)) i c ⌝ }
+    requires { ⌜ IsTask (tableAt (now row)) i j ⌝ }
+    ensures { λ r. ⌜ r ≡ heldOf (tableAt (now (row .entry))) i c j ⌝ }
 {
-    (row::jitter(row, i, j) + phase_of(row, i, c, j)) / row::period(row, i)
-}
-
-// One task's charge: the jobs held back, each whole, and the later ones.
-fn task_charge(
-    row: &[u32; Table::CELLS],
-    whole: bool,
-    i: usize,
-    m: usize,
-    c: usize,
-    t: Ticks,
-    j: usize,
-) -> Ticks
-    requires { ⌜ Lent (now row) ⌝ }
-    requires { ⌜ IsTask (tableOf (now row)) i c ⌝ }
-    requires { ⌜ IsTask (tableOf (now row)) i j ⌝ }
-    requires { ⌜ m < modes (tableOf (now row)) i ⌝ }
-    requires { ⌜ t .0 ≤ longest ⌝ }
-    ensures { λ r. ⌜ r .0 ≡ taskCharge (laterOf whole) (tableOf (now (row .entry))) i m c (t .0) j ⌝ }
-{
-    let time = row::time(row, i, m, j);
-    let since = after(t.0, phase_of(row, i, c, j));
-    Ticks(held_of(row, i, c, j) * time + later(whole, row::period(row, i), time, since))
+    row::wide(row[Work::HELD + place(row, i, c, j)])
 }
 
 // Whether task j of transaction i is a rival in mode m.
-pub(crate) fn is_rival(row: &[u32; Table::CELLS], s: Subject, i: usize, m: usize, j: usize) -> bool
-    requires { ⌜ Lent (now row) ⌝ }
-    requires { ⌜ IsSubject (tableOf (now row)) s ⌝ }
-    requires { ⌜ IsTask (tableOf (now row)) i j ⌝ }
-    requires { ⌜ m < modes (tableOf (now row)) i ⌝ }
-    ensures { λ r. ⌜ r ≡ tested (rival? (tableOf (now (row .entry))) (s .u) (s .a) i m j) ⌝ }
+pub(crate) fn is_rival(row: &[u32; Work::CELLS], s: Subject, i: usize, m: usize, j: usize) -> bool
+    requires { ⌜ Holds (now row) ⌝ }
+    requires { ⌜ Chosen (tableAt (now row)) s ⌝ }
+    requires { ⌜ IsTask (tableAt (now row)) i j ⌝ }
+    requires { ⌜ m < modes (tableAt (now row)) i ⌝ }
+    ensures { λ r. ⌜ r ≡ tested (rival? (tableAt (now (row .entry))) (s .u) (s .a) i m j) ⌝ }
 {
     if row::priority(row, i, j) < s.priority {
         return false;
@@ -129,148 +80,292 @@ pub(crate) fn is_rival(row: &[u32; Table::CELLS], s: Subject, i: usize, m: usize
     true
 }
 
-fn rival_charge(
-    row: &[u32; Table::CELLS],
-    s: Subject,
-    whole: bool,
-    i: usize,
-    m: usize,
-    c: usize,
-    t: Ticks,
-    j: usize,
-) -> Ticks
-    requires { ⌜ Lent (now row) ⌝ }
-    requires { ⌜ IsSubject (tableOf (now row)) s ⌝ }
-    requires { ⌜ IsTask (tableOf (now row)) i c ⌝ }
-    requires { ⌜ IsTask (tableOf (now row)) i j ⌝ }
-    requires { ⌜ m < modes (tableOf (now row)) i ⌝ }
-    requires { ⌜ t .0 ≤ longest ⌝ }
-    ensures { λ r. ⌜ r .0 ≡ when (rival? (tableOf (now (row .entry))) (s .u) (s .a) i m j) (taskCharge (laterOf whole) (tableOf (now (row .entry))) i m c (t .0) j) ⌝ }
-{
-    if is_rival(row, s, i, m, j) {
-        task_charge(row, whole, i, m, c, t, j)
-    } else {
-        Ticks(0)
-    }
-}
-
-// A transaction's charge for (c, mode) sums its rivals.
-fn charge(
-    row: &[u32; Table::CELLS],
-    s: Subject,
-    whole: bool,
-    i: usize,
-    m: usize,
-    c: usize,
-    t: Ticks,
-) -> Ticks
-    requires { ⌜ Lent (now row) ⌝ }
-    requires { ⌜ IsSubject (tableOf (now row)) s ⌝ }
-    requires { ⌜ IsTask (tableOf (now row)) i c ⌝ }
-    requires { ⌜ m < modes (tableOf (now row)) i ⌝ }
-    requires { ⌜ t .0 ≤ longest ⌝ }
-    ensures { λ r. ⌜ r .0 ≡ charge (laterOf whole) (tableOf (now (row .entry))) (s .u) (s .a) i m c (t .0) ⌝ }
-{
-    let count = row::tasks(row, i);
-    let mut sum: u64 = 0;
-    let mut j: usize = 0;
-    while j < count {
-        sum += rival_charge(row, s, whole, i, m, c, t, j).0;
-        j += 1;
-    }
-    Ticks(sum)
-}
-
-fn candidate_charge(
-    row: &[u32; Table::CELLS],
-    s: Subject,
-    whole: bool,
-    i: usize,
-    m: usize,
-    t: Ticks,
-    c: usize,
-) -> Ticks
-    requires { ⌜ Lent (now row) ⌝ }
-    requires { ⌜ IsSubject (tableOf (now row)) s ⌝ }
-    requires { ⌜ IsTask (tableOf (now row)) i c ⌝ }
-    requires { ⌜ m < modes (tableOf (now row)) i ⌝ }
-    requires { ⌜ t .0 ≤ longest ⌝ }
-    ensures { λ r. ⌜ r .0 ≡ when (rival? (tableOf (now (row .entry))) (s .u) (s .a) i m c) (charge (laterOf whole) (tableOf (now (row .entry))) (s .u) (s .a) i m c (t .0)) ⌝ }
-{
-    if is_rival(row, s, i, m, c) {
-        charge(row, s, whole, i, m, c, t)
-    } else {
-        Ticks(0)
-    }
-}
-
 pub(crate) fn greater(x: u64, y: u64) -> u64
     ensures { λ r. ⌜ r ≡ max x y ⌝ }
 {
     if x < y { y } else { x }
 }
 
-// The greatest charge of a transaction in one mode, over its candidates.
-fn mode_charge(
-    row: &[u32; Table::CELLS],
+fn lesser(x: u32, y: u32) -> u32
+    ensures { λ r. ⌜ r ≡ min x y ⌝ }
+{
+    if x < y { x } else { y }
+}
+
+fn after(t: u32, phase: u32) -> u32
+    ensures { λ r. ⌜ r ≡ t - phase ⌝ }
+{
+    if phase < t { t - phase } else { 0 }
+}
+
+// A transaction at one t: t split by its period, the number of its first task, and how many tasks it has.
+pub(crate) struct Split {
+    pub(crate) first: usize,
+    pub(crate) count: usize,
+    pub(crate) period: u32,
+    pub(crate) rest: u32,
+    pub(crate) periods: u64,
+}
+
+fn split_of(row: &[u32; Work::CELLS], i: usize, t: Ticks) -> Split
+    requires { ⌜ Holds (now row) ⌝ }
+    requires { ⌜ i < transactions (tableAt (now row)) ⌝ }
+    requires { ⌜ t .0 ≤ longest ⌝ }
+    ensures { λ r. ⌜ IsSplitAt (tableAt (now (row .entry))) i (t .0) r ⌝ }
+{
+    let period = row::period(row, i) as u32;
+    let at = t.0 as u32;
+    Split {
+        first: row::before(row, i),
+        count: row::tasks(row, i),
+        period,
+        rest: at % period,
+        periods: row::wide(at / period),
+    }
+}
+
+// What a task of that phase and weight charges beside the whole periods.
+fn rest_of(x: Split, whole: bool, phase: u32, weight: u32) -> u32
+    requires { ⌜ x .period < 2 ^ 24 ⌝ }
+    requires { ⌜ x .rest < x .period ⌝ }
+    requires { ⌜ phase < x .period ⌝ }
+    requires { ⌜ weight < 2 ^ 24 ⌝ }
+    ensures { λ r. ⌜ r ≡ restOf whole (x .periods) (x .period) (x .rest) phase weight ⌝ }
+{
+    if whole {
+        if phase < x.rest {
+            return weight;
+        }
+        return 0;
+    }
+    if x.periods == 0 {
+        return lesser(after(x.rest, phase), weight);
+    }
+    if phase <= x.rest {
+        return weight + lesser(x.rest - phase, weight);
+    }
+    lesser(x.rest + x.period - phase, weight)
+}
+
+// What all its tasks do.
+fn rests(
+    row: &[u32; Work::CELLS],
     s: Subject,
     whole: bool,
     i: usize,
-    t: Ticks,
     m: usize,
-) -> Ticks
+    c: usize,
+    x: Split,
+) -> u32
     requires { ⌜ Lent (now row) ⌝ }
-    requires { ⌜ IsSubject (tableOf (now row)) s ⌝ }
-    requires { ⌜ i < transactions (tableOf (now row)) ⌝ }
-    requires { ⌜ m < modes (tableOf (now row)) i ⌝ }
-    requires { ⌜ t .0 ≤ longest ⌝ }
-    ensures { λ r. ⌜ r .0 ≡ most (tasks (tableOf (now (row .entry))) i) (λ c. when (rival? (tableOf (now (row .entry))) (s .u) (s .a) i m c) (charge (laterOf whole) (tableOf (now (row .entry))) (s .u) (s .a) i m c (t .0))) ⌝ }
+    requires { ⌜ IsSubject (now row) s ⌝ }
+    requires { ⌜ IsTask (tableAt (now row)) i c ⌝ }
+    requires { ⌜ m < modes (tableAt (now row)) i ⌝ }
+    requires { ⌜ IsSplit (tableAt (now row)) i x ⌝ }
+    ensures { λ r. ⌜ r ≡ rests whole x (tableAt (now (row .entry))) (s .u) (s .a) i m c ⌝ }
 {
-    let count = row::tasks(row, i);
-    let mut best: u64 = 0;
-    let mut c: usize = 0;
-    while c < count {
-        best = greater(best, candidate_charge(row, s, whole, i, m, t, c).0);
-        c += 1;
+    let phases = Work::PHASES + Transaction::TASKS * (x.first + c);
+    let weights = Work::WEIGHTS + Table::TASKS * m + x.first;
+    let count = x.count;
+    let mut sum: u32 = 0;
+    let mut j: usize = 0;
+    while j < count {
+        sum += rest_of(x, whole, row[phases + j], row[weights + j]);
+        j += 1;
     }
-    Ticks(best)
+    sum
 }
 
-// The greatest charge of another transaction, over its modes and candidates.
-fn greatest(row: &[u32; Table::CELLS], s: Subject, whole: bool, i: usize, t: Ticks) -> Ticks
+// What the jobs held back to candidate c's instant weigh.
+fn held_back(row: &[u32; Work::CELLS], s: Subject, i: usize, m: usize, c: usize, x: Split) -> u64
     requires { ⌜ Lent (now row) ⌝ }
-    requires { ⌜ IsSubject (tableOf (now row)) s ⌝ }
-    requires { ⌜ i < transactions (tableOf (now row)) ⌝ }
-    requires { ⌜ t .0 ≤ longest ⌝ }
-    ensures { λ r. ⌜ r .0 ≡ greatest (laterOf whole) (tableOf (now (row .entry))) (s .u) (s .a) i (t .0) ⌝ }
+    requires { ⌜ IsSubject (now row) s ⌝ }
+    requires { ⌜ IsTask (tableAt (now row)) i c ⌝ }
+    requires { ⌜ m < modes (tableAt (now row)) i ⌝ }
+    requires { ⌜ IsSplit (tableAt (now row)) i x ⌝ }
+    ensures { λ r. ⌜ r ≡ heldBack (tableAt (now (row .entry))) (s .u) (s .a) i m c ⌝ }
+{
+    let at = Work::SUMS + 2 * (Transaction::MODES * (x.first + c) + m);
+    row::wide(row[at]) * 4_294_967_296 + row::wide(row[at + 1])
+}
+
+// The weights of transaction i in mode m.
+fn load(row: &[u32; Work::CELLS], s: Subject, i: usize, m: usize) -> u64
+    requires { ⌜ Lent (now row) ⌝ }
+    requires { ⌜ IsSubject (now row) s ⌝ }
+    requires { ⌜ i < transactions (tableAt (now row)) ⌝ }
+    requires { ⌜ m < modes (tableAt (now row)) i ⌝ }
+    ensures { λ r. ⌜ r ≡ weights (tableAt (now (row .entry))) (s .u) (s .a) i m ⌝ }
+{
+    row::wide(row[Work::LOADS + Transaction::MODES * i + m])
+}
+
+fn whole_periods(whole: bool, periods: u64) -> u64
+    ensures { λ r. ⌜ r ≡ wholePeriods whole periods ⌝ }
+{
+    if whole {
+        return periods;
+    }
+    if periods == 0 { 0 } else { periods - 1 }
+}
+
+// A transaction's charge for (c, mode) sums its rivals.
+fn charge(
+    row: &[u32; Work::CELLS],
+    s: Subject,
+    whole: bool,
+    i: usize,
+    m: usize,
+    c: usize,
+    x: Split,
+) -> Ticks
+    requires { ⌜ Lent (now row) ⌝ }
+    requires { ⌜ IsSubject (now row) s ⌝ }
+    requires { ⌜ IsTask (tableAt (now row)) i c ⌝ }
+    requires { ⌜ m < modes (tableAt (now row)) i ⌝ }
+    requires { ⌜ IsSplit (tableAt (now row)) i x ⌝ }
+    ensures { λ r. ⌜ r .0 ≡ charge (laterOf whole) (tableAt (now (row .entry))) (s .u) (s .a) i m c (moment x) ⌝ }
+{
+    let passed = whole_periods(whole, x.periods) * load(row, s, i, m);
+    let rest = row::wide(rests(row, s, whole, i, m, c, x));
+    Ticks(held_back(row, s, i, m, c, x) + passed + rest)
+}
+
+// The weight of task c in mode m.
+fn weight(row: &[u32; Work::CELLS], s: Subject, i: usize, m: usize, c: usize, x: Split) -> u32
+    requires { ⌜ Lent (now row) ⌝ }
+    requires { ⌜ IsSubject (now row) s ⌝ }
+    requires { ⌜ IsTask (tableAt (now row)) i c ⌝ }
+    requires { ⌜ m < modes (tableAt (now row)) i ⌝ }
+    requires { ⌜ IsSplit (tableAt (now row)) i x ⌝ }
+    ensures { λ r. ⌜ r ≡ weight (tableAt (now (row .entry))) (s .u) (s .a) i m c ⌝ }
+{
+    row[Work::WEIGHTS + Table::TASKS * m + (x.first + c)]
+}
+
+// The most that a transaction can charge for (c, mode): a period more than the whole ones.
+fn ceiling(row: &[u32; Work::CELLS], s: Subject, i: usize, m: usize, c: usize, x: Split) -> u64
+    requires { ⌜ Lent (now row) ⌝ }
+    requires { ⌜ IsSubject (now row) s ⌝ }
+    requires { ⌜ IsTask (tableAt (now row)) i c ⌝ }
+    requires { ⌜ m < modes (tableAt (now row)) i ⌝ }
+    requires { ⌜ IsSplit (tableAt (now row)) i x ⌝ }
+    ensures { λ r. ⌜ r ≡ heldBack (tableAt (now (row .entry))) (s .u) (s .a) i m c + (x .periods + 1) * weights (tableAt (now (row .entry))) (s .u) (s .a) i m ⌝ }
+{
+    held_back(row, s, i, m, c, x) + (x.periods + 1) * load(row, s, i, m)
+}
+
+// The greater of `best` and what c charges as candidate, if it is one. What cannot be greater is passed over.
+fn candidate_charge(
+    row: &[u32; Work::CELLS],
+    s: Subject,
+    whole: bool,
+    i: usize,
+    m: usize,
+    x: Split,
+    c: usize,
+    best: u64,
+) -> u64
+    requires { ⌜ Lent (now row) ⌝ }
+    requires { ⌜ IsSubject (now row) s ⌝ }
+    requires { ⌜ IsTask (tableAt (now row)) i c ⌝ }
+    requires { ⌜ m < modes (tableAt (now row)) i ⌝ }
+    requires { ⌜ IsSplit (tableAt (now row)) i x ⌝ }
+    ensures { λ r. ⌜ r ≡ max best (when (rival? (tableAt (now (row .entry))) (s .u) (s .a) i m c) (charge (laterOf whole) (tableAt (now (row .entry))) (s .u) (s .a) i m c (moment x))) ⌝ }
+{
+    let weighs = weight(row, s, i, m, c, x);
+    if weighs == 0 {
+        return best;
+    }
+    let most = ceiling(row, s, i, m, c, x);
+    if most <= best {
+        return best;
+    }
+    greater(best, charge(row, s, whole, i, m, c, x).0)
+}
+
+// The greater of `best` and the greatest charge of a transaction in one mode, over its candidates.
+fn mode_charge(
+    row: &[u32; Work::CELLS],
+    s: Subject,
+    whole: bool,
+    i: usize,
+    x: Split,
+    m: usize,
+    best: u64,
+) -> u64
+    requires { ⌜ Lent (now row) ⌝ }
+    requires { ⌜ IsSubject (now row) s ⌝ }
+    requires { ⌜ m < modes (tableAt (now row)) i ⌝ }
+    requires { ⌜ IsSplit (tableAt (now row)) i x ⌝ }
+    ensures { λ r. ⌜ r ≡ max best (most (tasks (tableAt (now (row .entry))) i) (λ c. when (rival? (tableAt (now (row .entry))) (s .u) (s .a) i m c) (charge (laterOf whole) (tableAt (now (row .entry))) (s .u) (s .a) i m c (moment x)))) ⌝ }
+{
+    let count = x.count;
+    let mut high = best;
+    let mut c: usize = 0;
+    while c < count {
+        high = candidate_charge(row, s, whole, i, m, x, c, high);
+        c += 1;
+    }
+    high
+}
+
+// The greatest weights of transaction i over its modes: 0 where it has no rival.
+fn most_weights(row: &[u32; Work::CELLS], s: Subject, i: usize) -> u64
+    requires { ⌜ Lent (now row) ⌝ }
+    requires { ⌜ IsSubject (now row) s ⌝ }
+    requires { ⌜ i < transactions (tableAt (now row)) ⌝ }
+    ensures { λ r. ⌜ r ≡ most (modes (tableAt (now (row .entry))) i) (weights (tableAt (now (row .entry))) (s .u) (s .a) i) ⌝ }
 {
     let count = row::modes(row, i);
     let mut best: u64 = 0;
     let mut m: usize = 0;
     while m < count {
-        best = greater(best, mode_charge(row, s, whole, i, t, m).0);
+        best = greater(best, load(row, s, i, m));
+        m += 1;
+    }
+    best
+}
+
+// The greatest charge of another transaction, over its modes and candidates.
+fn greatest(row: &[u32; Work::CELLS], s: Subject, whole: bool, i: usize, t: Ticks) -> Ticks
+    requires { ⌜ Lent (now row) ⌝ }
+    requires { ⌜ IsSubject (now row) s ⌝ }
+    requires { ⌜ i < transactions (tableAt (now row)) ⌝ }
+    requires { ⌜ t .0 ≤ longest ⌝ }
+    ensures { λ r. ⌜ r .0 ≡ greatest (laterOf whole) (tableAt (now (row .entry))) (s .u) (s .a) i (t .0) ⌝ }
+{
+    let x = split_of(row, i, t);
+    let count = row::modes(row, i);
+    let mut best: u64 = 0;
+    let mut m: usize = 0;
+    while m < count {
+        best = mode_charge(row, s, whole, i, x, m, best);
         m += 1;
     }
     Ticks(best)
 }
 
-fn other_charge(row: &[u32; Table::CELLS], s: Subject, whole: bool, t: Ticks, i: usize) -> Ticks
+fn other_charge(row: &[u32; Work::CELLS], s: Subject, whole: bool, t: Ticks, i: usize) -> Ticks
     requires { ⌜ Lent (now row) ⌝ }
-    requires { ⌜ IsSubject (tableOf (now row)) s ⌝ }
-    requires { ⌜ i < transactions (tableOf (now row)) ⌝ }
+    requires { ⌜ IsSubject (now row) s ⌝ }
+    requires { ⌜ i < transactions (tableAt (now row)) ⌝ }
     requires { ⌜ t .0 ≤ longest ⌝ }
-    ensures { λ r. ⌜ r .0 ≡ unless (ℕ-discrete i (s .u)) (greatest (laterOf whole) (tableOf (now (row .entry))) (s .u) (s .a) i (t .0)) ⌝ }
+    ensures { λ r. ⌜ r .0 ≡ unless (ℕ-discrete i (s .u)) (greatest (laterOf whole) (tableAt (now (row .entry))) (s .u) (s .a) i (t .0)) ⌝ }
 {
     if i == s.u {
-        Ticks(0)
-    } else {
-        greatest(row, s, whole, i, t)
+        return Ticks(0);
     }
+    let heaviest = most_weights(row, s, i);
+    if heaviest == 0 {
+        return Ticks(0);
+    }
+    greatest(row, s, whole, i, t)
 }
 
 // The rivals' charges: in u for the given mode and candidate, elsewhere the greatest.
 pub(crate) fn rivals(
-    row: &[u32; Table::CELLS],
+    row: &[u32; Work::CELLS],
     s: Subject,
     whole: bool,
     m: usize,
@@ -278,11 +373,11 @@ pub(crate) fn rivals(
     t: Ticks,
 ) -> Ticks
     requires { ⌜ Lent (now row) ⌝ }
-    requires { ⌜ IsSubject (tableOf (now row)) s ⌝ }
-    requires { ⌜ IsTask (tableOf (now row)) (s .u) c ⌝ }
-    requires { ⌜ m < modes (tableOf (now row)) (s .u) ⌝ }
+    requires { ⌜ IsSubject (now row) s ⌝ }
+    requires { ⌜ IsTask (tableAt (now row)) (s .u) c ⌝ }
+    requires { ⌜ m < modes (tableAt (now row)) (s .u) ⌝ }
     requires { ⌜ t .0 ≤ longest ⌝ }
-    ensures { λ r. ⌜ r .0 ≡ rivals (laterOf whole) (tableOf (now (row .entry))) (s .u) (s .a) m c (t .0) ⌝ }
+    ensures { λ r. ⌜ r .0 ≡ rivals (laterOf whole) (tableAt (now (row .entry))) (s .u) (s .a) m c (t .0) ⌝ }
 {
     let count = row::transactions(row);
     let mut sum: u64 = 0;
@@ -291,5 +386,6 @@ pub(crate) fn rivals(
         sum += other_charge(row, s, whole, t, i).0;
         i += 1;
     }
-    Ticks(charge(row, s, whole, s.u, m, c, t).0 + sum)
+    let own = split_of(row, s.u, t);
+    Ticks(charge(row, s, whole, s.u, m, c, own).0 + sum)
 }

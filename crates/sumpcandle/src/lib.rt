@@ -4,22 +4,25 @@ use answers::TaskCells;
 use image::Answer;
 use image::Refusal;
 use image::Table;
+use layout::Work;
 ghost use mathlib.Core.Path.{_≡_};
 ghost use Prim.Native.Nat.{_+_, _*_, _<_};
 ghost use lib.ListN.{length};
 ghost use Rattle.image.specs.Row.{tableOf};
 ghost use Rattle.table.specs.Limits.{tasksInAll};
-ghost use Rattle.sumpcandle.specs.Lent.{Lent};
+ghost use Rattle.sumpcandle.specs.Parts.{RowOfTable};
 ghost use Rattle.sumpcandle.specs.Answered.{stored};
 ghost use Rattle.sumpcandle.specs.Told.{cellsOfTask, filledNumber, filledPlace, Fills, FillsFrom, Responds, RespondsFrom, paired};
 
 mod answers;
 mod chains;
 mod charges;
+mod layout;
 mod overload;
 mod quantity;
 mod row;
 mod walk;
+mod work;
 
 // What became of a lent row.
 pub enum Filled {
@@ -71,16 +74,18 @@ fn put(row: &mut [u32], k: usize, c: TaskCells)
 
 // The cells of every task, or nothing where they do not fit.
 fn fill(table: &[u32; Table::CELLS], budget: u32, row: &mut [u32]) -> Filled
-    requires { ⌜ Lent (now table) ⌝ }
+    requires { ⌜ RowOfTable (now table) ⌝ }
     ensures { λ r. ⌜ FillsFrom (tableOf (now (table .entry))) budget (now (row .entry)) (now (row .exit)) r ⌝ }
 {
-    let count = row::in_all(table);
+    let count = row::index(Table::in_all(table));
     if row.len() < TaskCells::COUNT * count {
         return Filled::Short;
     }
+    let mut working = [0u32; Work::CELLS];
+    work::prepare(table, &mut working);
     let mut k: usize = 0;
     while k < count {
-        put(row, k, answers::task_cells(table, k, budget));
+        put(row, k, answers::task_cells(table, &mut working, k, budget));
         k += 1;
     }
     Filled::Done(count)
@@ -110,11 +115,13 @@ fn pair(upper: u32, lower: u32) -> u64
 
 // The number for one task of a lent table.
 fn response(table: &[u32; Table::CELLS], task: usize, budget: u32) -> u64
-    requires { ⌜ Lent (now table) ⌝ }
+    requires { ⌜ RowOfTable (now table) ⌝ }
     ensures { λ r. ⌜ RespondsFrom (tableOf (now (table .entry))) task budget r ⌝ }
 {
-    if task < row::in_all(table) {
-        let c = answers::task_cells(table, task, budget);
+    if task < row::index(Table::in_all(table)) {
+        let mut working = [0u32; Work::CELLS];
+        work::prepare(table, &mut working);
+        let c = answers::task_cells(table, &mut working, task, budget);
         return pair(c.code, c.bound);
     }
     pair(Filled::NO_TASK, 0)

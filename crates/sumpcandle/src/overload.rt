@@ -1,25 +1,25 @@
 // Overload: what the task under analysis and its rivals demand in one major frame.
 use super::charges::Subject;
 use super::charges::greater;
+use super::layout::Work;
 use super::row;
-use image::Table;
 ghost use mathlib.Core.Path.{_≡_};
 ghost use Prim.Native.Nat.{_<_, _*_, _/_};
 ghost use native.Mathlib.Decide.{ℕ-discrete};
-ghost use Rattle.image.specs.Row.{tableOf};
 ghost use Rattle.table.specs.Table.{IsTask, transactions, period, modes, time};
 ghost use Rattle.analysis.specs.Choice.{when};
 ghost use Rattle.analysis.specs.Rival.{urgent?, runs?};
 ghost use Rattle.analysis.specs.Overload.{load, countsBy, mostLoad, frameDemand, overload?};
-ghost use Rattle.sumpcandle.specs.Lent.{Lent, IsSubject, tested};
+ghost use Rattle.sumpcandle.specs.Lent.{tested};
+ghost use Rattle.sumpcandle.specs.Work.{Lent, IsSubject, tableAt};
 
 // The time of task j, if its priority is at least the subject's.
-fn urgent_time(row: &[u32; Table::CELLS], s: Subject, i: usize, m: usize, j: usize) -> u64
+fn urgent_time(row: &[u32; Work::CELLS], s: Subject, i: usize, m: usize, j: usize) -> u64
     requires { ⌜ Lent (now row) ⌝ }
-    requires { ⌜ IsSubject (tableOf (now row)) s ⌝ }
-    requires { ⌜ IsTask (tableOf (now row)) i j ⌝ }
-    requires { ⌜ m < modes (tableOf (now row)) i ⌝ }
-    ensures { λ r. ⌜ r ≡ when (urgent? (tableOf (now (row .entry))) (s .u) (s .a) i j) (time (tableOf (now (row .entry))) i m j) ⌝ }
+    requires { ⌜ IsSubject (now row) s ⌝ }
+    requires { ⌜ IsTask (tableAt (now row)) i j ⌝ }
+    requires { ⌜ m < modes (tableAt (now row)) i ⌝ }
+    ensures { λ r. ⌜ r ≡ when (urgent? (tableAt (now (row .entry))) (s .u) (s .a) i j) (time (tableAt (now (row .entry))) i m j) ⌝ }
 {
     if row::priority(row, i, j) < s.priority {
         0
@@ -29,12 +29,12 @@ fn urgent_time(row: &[u32; Table::CELLS], s: Subject, i: usize, m: usize, j: usi
 }
 
 // The times of a and its rivals in transaction i and mode m.
-fn load(row: &[u32; Table::CELLS], s: Subject, i: usize, m: usize) -> u64
+fn load(row: &[u32; Work::CELLS], s: Subject, i: usize, m: usize) -> u64
     requires { ⌜ Lent (now row) ⌝ }
-    requires { ⌜ IsSubject (tableOf (now row)) s ⌝ }
-    requires { ⌜ i < transactions (tableOf (now row)) ⌝ }
-    requires { ⌜ m < modes (tableOf (now row)) i ⌝ }
-    ensures { λ r. ⌜ r ≡ load (tableOf (now (row .entry))) (s .u) (s .a) i m ⌝ }
+    requires { ⌜ IsSubject (now row) s ⌝ }
+    requires { ⌜ i < transactions (tableAt (now row)) ⌝ }
+    requires { ⌜ m < modes (tableAt (now row)) i ⌝ }
+    ensures { λ r. ⌜ r ≡ load (tableAt (now (row .entry))) (s .u) (s .a) i m ⌝ }
 {
     let count = row::tasks(row, i);
     let mut sum: u64 = 0;
@@ -47,12 +47,12 @@ fn load(row: &[u32; Table::CELLS], s: Subject, i: usize, m: usize) -> u64
 }
 
 // The load of a mode that counts: of the subject's own transaction only modes where it runs.
-fn counted_load(row: &[u32; Table::CELLS], s: Subject, i: usize, m: usize) -> u64
+fn counted_load(row: &[u32; Work::CELLS], s: Subject, i: usize, m: usize) -> u64
     requires { ⌜ Lent (now row) ⌝ }
-    requires { ⌜ IsSubject (tableOf (now row)) s ⌝ }
-    requires { ⌜ i < transactions (tableOf (now row)) ⌝ }
-    requires { ⌜ m < modes (tableOf (now row)) i ⌝ }
-    ensures { λ r. ⌜ r ≡ when (countsBy (ℕ-discrete i (s .u)) (runs? (tableOf (now (row .entry))) (s .u) m (s .a))) (load (tableOf (now (row .entry))) (s .u) (s .a) i m) ⌝ }
+    requires { ⌜ IsSubject (now row) s ⌝ }
+    requires { ⌜ i < transactions (tableAt (now row)) ⌝ }
+    requires { ⌜ m < modes (tableAt (now row)) i ⌝ }
+    ensures { λ r. ⌜ r ≡ when (countsBy (ℕ-discrete i (s .u)) (runs? (tableAt (now (row .entry))) (s .u) m (s .a))) (load (tableAt (now (row .entry))) (s .u) (s .a) i m) ⌝ }
 {
     if i == s.u {
         if row::time(row, s.u, m, s.a) == 0 {
@@ -63,11 +63,11 @@ fn counted_load(row: &[u32; Table::CELLS], s: Subject, i: usize, m: usize) -> u6
 }
 
 // The greatest load of transaction i over the modes that count.
-fn most_load(row: &[u32; Table::CELLS], s: Subject, i: usize) -> u64
+fn most_load(row: &[u32; Work::CELLS], s: Subject, i: usize) -> u64
     requires { ⌜ Lent (now row) ⌝ }
-    requires { ⌜ IsSubject (tableOf (now row)) s ⌝ }
-    requires { ⌜ i < transactions (tableOf (now row)) ⌝ }
-    ensures { λ r. ⌜ r ≡ mostLoad (tableOf (now (row .entry))) (s .u) (s .a) i ⌝ }
+    requires { ⌜ IsSubject (now row) s ⌝ }
+    requires { ⌜ i < transactions (tableAt (now row)) ⌝ }
+    ensures { λ r. ⌜ r ≡ mostLoad (tableAt (now (row .entry))) (s .u) (s .a) i ⌝ }
 {
     let count = row::modes(row, i);
     let mut best: u64 = 0;
@@ -80,19 +80,19 @@ fn most_load(row: &[u32; Table::CELLS], s: Subject, i: usize) -> u64
 }
 
 // What transaction i demands in one major frame.
-fn share(row: &[u32; Table::CELLS], s: Subject, i: usize) -> u64
+fn share(row: &[u32; Work::CELLS], s: Subject, i: usize) -> u64
     requires { ⌜ Lent (now row) ⌝ }
-    requires { ⌜ IsSubject (tableOf (now row)) s ⌝ }
-    requires { ⌜ i < transactions (tableOf (now row)) ⌝ }
-    ensures { λ r. ⌜ r ≡ tableOf (now (row .entry)) .frame / period (tableOf (now (row .entry))) i * mostLoad (tableOf (now (row .entry))) (s .u) (s .a) i ⌝ }
+    requires { ⌜ IsSubject (now row) s ⌝ }
+    requires { ⌜ i < transactions (tableAt (now row)) ⌝ }
+    ensures { λ r. ⌜ r ≡ tableAt (now (row .entry)) .frame / period (tableAt (now (row .entry))) i * mostLoad (tableAt (now (row .entry))) (s .u) (s .a) i ⌝ }
 {
     row::frame(row) / row::period(row, i) * most_load(row, s, i)
 }
 
-fn frame_demand(row: &[u32; Table::CELLS], s: Subject) -> u64
+fn frame_demand(row: &[u32; Work::CELLS], s: Subject) -> u64
     requires { ⌜ Lent (now row) ⌝ }
-    requires { ⌜ IsSubject (tableOf (now row)) s ⌝ }
-    ensures { λ r. ⌜ r ≡ frameDemand (tableOf (now (row .entry))) (s .u) (s .a) ⌝ }
+    requires { ⌜ IsSubject (now row) s ⌝ }
+    ensures { λ r. ⌜ r ≡ frameDemand (tableAt (now (row .entry))) (s .u) (s .a) ⌝ }
 {
     let count = row::transactions(row);
     let mut sum: u64 = 0;
@@ -104,10 +104,10 @@ fn frame_demand(row: &[u32; Table::CELLS], s: Subject) -> u64
     sum
 }
 
-pub(crate) fn is_overload(row: &[u32; Table::CELLS], s: Subject) -> bool
+pub(crate) fn is_overload(row: &[u32; Work::CELLS], s: Subject) -> bool
     requires { ⌜ Lent (now row) ⌝ }
-    requires { ⌜ IsSubject (tableOf (now row)) s ⌝ }
-    ensures { λ r. ⌜ r ≡ tested (overload? (tableOf (now (row .entry))) (s .u) (s .a)) ⌝ }
+    requires { ⌜ IsSubject (now row) s ⌝ }
+    ensures { λ r. ⌜ r ≡ tested (overload? (tableAt (now (row .entry))) (s .u) (s .a)) ⌝ }
 {
     row::frame(row) < frame_demand(row, s)
 }

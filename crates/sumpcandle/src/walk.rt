@@ -6,15 +6,14 @@ use super::chains::Turn;
 use super::charges;
 use super::charges::Subject;
 use super::charges::greater;
+use super::layout::Work;
 use super::quantity::JobNumber;
 use super::quantity::Moment;
 use super::quantity::Ticks;
 use super::row;
-use image::Table;
 ghost use mathlib.Core.Path.{_≡_};
 ghost use lib.IntN.{pos, _+ℤ_, _-ℤ_, _*ℤ_};
 ghost use Prim.Native.Nat.{_-_, _<_, _≤_, _^_};
-ghost use Rattle.image.specs.Row.{tableOf};
 ghost use Rattle.table.specs.Table.{modes, tasks};
 ghost use Rattle.periods.specs.Charge.{imposed};
 ghost use Rattle.analysis.specs.Choice.{count};
@@ -22,8 +21,9 @@ ghost use Rattle.analysis.specs.Rival.{Runs, candidate?};
 ghost use Rattle.analysis.specs.Bound.{Setting};
 ghost use Rattle.analysis.specs.Order.{walkOrder};
 ghost use Rattle.analysis.specs.Walk.{walkJobs, walkTurn, walkTurns};
-ghost use Rattle.sumpcandle.specs.Lent.{Lent, IsSubject, tested, longest};
+ghost use Rattle.sumpcandle.specs.Lent.{tested, longest};
 ghost use Rattle.sumpcandle.specs.Turn.{IsTurn, Near, Lasts, walked, turnsFrom, modeTurns};
+ghost use Rattle.sumpcandle.specs.Work.{Lent, IsSubject, tableAt};
 
 // The evaluations made so far, and the greatest response so far.
 pub(crate) struct Walk {
@@ -76,12 +76,12 @@ fn job(first: JobNumber, n: u64) -> JobNumber
 }
 
 // Whether task c is a candidate of the subject in mode m.
-fn is_candidate(row: &[u32; Table::CELLS], s: Subject, m: usize, c: usize) -> bool
+fn is_candidate(row: &[u32; Work::CELLS], s: Subject, m: usize, c: usize) -> bool
     requires { ⌜ Lent (now row) ⌝ }
-    requires { ⌜ IsSubject (tableOf (now row)) s ⌝ }
-    requires { ⌜ m < modes (tableOf (now row)) (s .u) ⌝ }
-    requires { ⌜ c < tasks (tableOf (now row)) (s .u) ⌝ }
-    ensures { λ r. ⌜ r ≡ tested (candidate? (tableOf (now (row .entry))) (s .u) (s .a) m c) ⌝ }
+    requires { ⌜ IsSubject (now row) s ⌝ }
+    requires { ⌜ m < modes (tableAt (now row)) (s .u) ⌝ }
+    requires { ⌜ c < tasks (tableAt (now row)) (s .u) ⌝ }
+    ensures { λ r. ⌜ r ≡ tested (candidate? (tableAt (now (row .entry))) (s .u) (s .a) m c) ⌝ }
 {
     if c == s.a {
         return true;
@@ -99,7 +99,7 @@ impl Walk {
     // One job: its chain, and its response.
     fn job(
         self,
-        row: &[u32; Table::CELLS],
+        row: &[u32; Work::CELLS],
         s: Subject,
         x: Turn,
         n: u64,
@@ -107,12 +107,12 @@ impl Walk {
         budget: u32,
     ) -> Walked
         requires { ⌜ Lent (now row) ⌝ }
-        requires { ⌜ IsSubject (tableOf (now row)) s ⌝ }
-        requires { ⌜ IsTurn (tableOf (now row)) (s .u) (s .a) (x .mode) (x .candidate) x ⌝ }
-        requires { ⌜ Lasts (tableOf (now row)) (s .u) (s .a) (x .mode) (x .candidate) jobs ⌝ }
+        requires { ⌜ IsSubject (now row) s ⌝ }
+        requires { ⌜ IsTurn (tableAt (now row)) (s .u) (s .a) (x .mode) (x .candidate) x ⌝ }
+        requires { ⌜ Lasts (tableAt (now row)) (s .u) (s .a) (x .mode) (x .candidate) jobs ⌝ }
         requires { ⌜ n < jobs ⌝ }
         requires { ⌜ self .used ≤ budget ⌝ }
-        ensures { λ r. ⌜ r ≡ walked budget (walkJobs imposed (tableOf (now (row .entry))) (s .u) (s .a) (x .mode) (x .candidate) 1 n (budget - self .used) (self .best)) ⌝ }
+        ensures { λ r. ⌜ r ≡ walked budget (walkJobs imposed (tableAt (now (row .entry))) (s .u) (s .a) (x .mode) (x .candidate) 1 n (budget - self .used) (self .best)) ⌝ }
     {
         let first = x.first;
         let p = job(first, n);
@@ -127,13 +127,13 @@ impl Walk {
     }
 
     // The jobs of one turn, lowest first.
-    fn jobs(self, row: &[u32; Table::CELLS], s: Subject, x: Turn, jobs: u64, budget: u32) -> Walked
+    fn jobs(self, row: &[u32; Work::CELLS], s: Subject, x: Turn, jobs: u64, budget: u32) -> Walked
         requires { ⌜ Lent (now row) ⌝ }
-        requires { ⌜ IsSubject (tableOf (now row)) s ⌝ }
-        requires { ⌜ IsTurn (tableOf (now row)) (s .u) (s .a) (x .mode) (x .candidate) x ⌝ }
-        requires { ⌜ Lasts (tableOf (now row)) (s .u) (s .a) (x .mode) (x .candidate) jobs ⌝ }
+        requires { ⌜ IsSubject (now row) s ⌝ }
+        requires { ⌜ IsTurn (tableAt (now row)) (s .u) (s .a) (x .mode) (x .candidate) x ⌝ }
+        requires { ⌜ Lasts (tableAt (now row)) (s .u) (s .a) (x .mode) (x .candidate) jobs ⌝ }
         requires { ⌜ self .used ≤ budget ⌝ }
-        ensures { λ r. ⌜ r ≡ walked budget (walkJobs imposed (tableOf (now (row .entry))) (s .u) (s .a) (x .mode) (x .candidate) jobs 0 (budget - self .used) (self .best)) ⌝ }
+        ensures { λ r. ⌜ r ≡ walked budget (walkJobs imposed (tableAt (now (row .entry))) (s .u) (s .a) (x .mode) (x .candidate) jobs 0 (budget - self .used) (self .best)) ⌝ }
     {
         let mut state = self;
         let mut n: u64 = 0;
@@ -149,12 +149,12 @@ impl Walk {
     }
 
     // One turn: the L chain, then the jobs.
-    fn turn(self, row: &[u32; Table::CELLS], s: Subject, m: usize, c: usize, budget: u32) -> Walked
+    fn turn(self, row: &[u32; Work::CELLS], s: Subject, m: usize, c: usize, budget: u32) -> Walked
         requires { ⌜ Lent (now row) ⌝ }
-        requires { ⌜ IsSubject (tableOf (now row)) s ⌝ }
-        requires { ⌜ Setting (tableOf (now row)) (s .u) (s .a) m c ⌝ }
+        requires { ⌜ IsSubject (now row) s ⌝ }
+        requires { ⌜ Setting (tableAt (now row)) (s .u) (s .a) m c ⌝ }
         requires { ⌜ self .used ≤ budget ⌝ }
-        ensures { λ r. ⌜ r ≡ walked budget (walkTurn imposed (tableOf (now (row .entry))) (s .u) (s .a) (record { mode = m; candidate = c }) (budget - self .used) (self .best)) ⌝ }
+        ensures { λ r. ⌜ r ≡ walked budget (walkTurn imposed (tableAt (now (row .entry))) (s .u) (s .a) (record { mode = m; candidate = c }) (budget - self .used) (self .best)) ⌝ }
     {
         let x = chains::turn_of(row, s, m, c);
         match chains::busy_chain(row, s, x, budget, self.used) {
@@ -176,19 +176,19 @@ impl Walk {
     // The turn of c, if it is a candidate.
     fn candidate(
         self,
-        row: &[u32; Table::CELLS],
+        row: &[u32; Work::CELLS],
         s: Subject,
         m: usize,
         c: usize,
         budget: u32,
     ) -> Walked
         requires { ⌜ Lent (now row) ⌝ }
-        requires { ⌜ IsSubject (tableOf (now row)) s ⌝ }
-        requires { ⌜ m < modes (tableOf (now row)) (s .u) ⌝ }
-        requires { ⌜ Runs (tableOf (now row)) (s .u) m (s .a) ⌝ }
-        requires { ⌜ c < tasks (tableOf (now row)) (s .u) ⌝ }
+        requires { ⌜ IsSubject (now row) s ⌝ }
+        requires { ⌜ m < modes (tableAt (now row)) (s .u) ⌝ }
+        requires { ⌜ Runs (tableAt (now row)) (s .u) m (s .a) ⌝ }
+        requires { ⌜ c < tasks (tableAt (now row)) (s .u) ⌝ }
         requires { ⌜ self .used ≤ budget ⌝ }
-        ensures { λ r. ⌜ r ≡ walked budget (walkTurns imposed (tableOf (now (row .entry))) (s .u) (s .a) (turnsFrom (tableOf (now (row .entry))) (s .u) (s .a) m c 1) (budget - self .used) (self .best)) ⌝ }
+        ensures { λ r. ⌜ r ≡ walked budget (walkTurns imposed (tableAt (now (row .entry))) (s .u) (s .a) (turnsFrom (tableAt (now (row .entry))) (s .u) (s .a) m c 1) (budget - self .used) (self .best)) ⌝ }
     {
         if is_candidate(row, s, m, c) {
             self.turn(row, s, m, c, budget)
@@ -198,12 +198,12 @@ impl Walk {
     }
 
     // The candidates of one mode, in image order.
-    fn mode(self, row: &[u32; Table::CELLS], s: Subject, m: usize, budget: u32) -> Walked
+    fn mode(self, row: &[u32; Work::CELLS], s: Subject, m: usize, budget: u32) -> Walked
         requires { ⌜ Lent (now row) ⌝ }
-        requires { ⌜ IsSubject (tableOf (now row)) s ⌝ }
-        requires { ⌜ m < modes (tableOf (now row)) (s .u) ⌝ }
+        requires { ⌜ IsSubject (now row) s ⌝ }
+        requires { ⌜ m < modes (tableAt (now row)) (s .u) ⌝ }
         requires { ⌜ self .used ≤ budget ⌝ }
-        ensures { λ r. ⌜ r ≡ walked budget (walkTurns imposed (tableOf (now (row .entry))) (s .u) (s .a) (modeTurns (tableOf (now (row .entry))) (s .u) (s .a) m) (budget - self .used) (self .best)) ⌝ }
+        ensures { λ r. ⌜ r ≡ walked budget (walkTurns imposed (tableAt (now (row .entry))) (s .u) (s .a) (modeTurns (tableAt (now (row .entry))) (s .u) (s .a) m) (budget - self .used) (self .best)) ⌝ }
     {
         if row::time(row, s.u, m, s.a) == 0 {
             return Walked::Through(self);
@@ -223,11 +223,11 @@ impl Walk {
     }
 
     // The whole walk: the modes in ascending order.
-    pub(crate) fn modes(self, row: &[u32; Table::CELLS], s: Subject, budget: u32) -> Walked
+    pub(crate) fn modes(self, row: &[u32; Work::CELLS], s: Subject, budget: u32) -> Walked
         requires { ⌜ Lent (now row) ⌝ }
-        requires { ⌜ IsSubject (tableOf (now row)) s ⌝ }
+        requires { ⌜ IsSubject (now row) s ⌝ }
         requires { ⌜ self .used ≤ budget ⌝ }
-        ensures { λ r. ⌜ r ≡ walked budget (walkTurns imposed (tableOf (now (row .entry))) (s .u) (s .a) (walkOrder (tableOf (now (row .entry))) (s .u) (s .a)) (budget - self .used) (self .best)) ⌝ }
+        ensures { λ r. ⌜ r ≡ walked budget (walkTurns imposed (tableAt (now (row .entry))) (s .u) (s .a) (walkOrder (tableAt (now (row .entry))) (s .u) (s .a)) (budget - self .used) (self .best)) ⌝ }
     {
         let count = row::modes(row, s.u);
         let mut state = self;

@@ -1,19 +1,23 @@
--- `task_cells` gives the cells of the answer of the task with that number, by that task's deadline.
-use mathlib.Core.Path.{_≡_, ap₂, _∙_}
+-- `task_cells` gives the cells of the answer of the task with that number, by that task's deadline, once the working row has
+-- that task's weights.
+use mathlib.Core.Path.{_≡_, ap, ap₂, _∙_}
 use denote.Ref.{now}
 use borrow.Author.Needs.{needs}
-use Rattle.table.specs.Table.{deadline}
+use Rattle.table.specs.Table.{Table, deadline}
 use Rattle.image.specs.Row.{tableOf}
 use Rattle.periods.specs.Charge.{imposed}
 use Rattle.analysis.specs.Answer.{cells}
 use Rattle.analysis.specs.Walk.{answer}
-use Rattle.sumpcandle.specs.Answered.{written, cellsFor}
+use Rattle.sumpcandle.specs.Answered.{answered, written, cellsFor}
 use Rattle.sumpcandle.proofs.Answered.{answered-cells}
 use Rattle.sumpcandle.proofs.answers.task_cells.Statement.{statement}
 use Rattle.sumpcandle.proofs.answers.task_cells.Tie as tie
 
-subject-requires : tie.Need-subject-requires
-subject-requires c κs = search needs
+task-requires : tie.Need-task-requires
+task-requires c κs = search needs
+
+weigh-requires : tie.Need-weigh-requires
+weigh-requires c κs = search needs
 
 answer-requires : tie.Need-answer-requires
 answer-requires c κs = search needs
@@ -24,27 +28,28 @@ deadline-requires c κs = search needs
 cells-requires : tie.Need-cells-requires
 cells-requires c κs = search needs
 
-is :
-    (c : tie.After-cells)
-    → c .cells .result
-    ≡ written
-    (cells
-    (deadline (tableOf (now (c .before .before .before .before .args .row))) (c .before .before .before .subject .result .u)
-    (c .before .before .before .subject .result .a))
-    (answer imposed (tableOf (now (c .before .before .before .before .args .row)))
-    (c .before .before .before .subject .result .u)
-    (c .before .before .before .subject .result .a)
-    (c .before .before .before .before .args .budget)))
-is c =
-    c .cells .ensures
-    ∙ ap₂ cellsFor (c .before .deadline .ensures) (c .before .before .answer .ensures)
-    ∙ answered-cells _ _
-
 returns : tie.Need-returns
 returns c =
-    let x = c .before .before .before in
-    record { s = x .subject .result; isSubjectAt = x .subject .ensures; is = is c }
+    let y = c .before .before in
+    let w = y .before .before in
+    let t = w .before .before in
+    let s = t .task .result in
+    let tab = tableOf (now (t .before .args .table)) in
+    let budget = t .before .args .budget in
+    let is : c .cells .result ≡ written (cells (deadline tab (s .u) (s .a)) (answer imposed tab (s .u) (s .a) budget)) =
+    c .cells .ensures
+    ∙ ap₂ cellsFor (c .before .deadline .ensures)
+    (y .answer .ensures ∙ ap (λ (x : Table). answered (answer imposed x (s .u) (s .a) budget)) (w .weigh .ensures .1 .0))
+    ∙ answered-cells _ _ in
+    (record { s = s; isSubjectAt = t .task .ensures; is = is }, (w .weigh .ensures .0, w .weigh .ensures .1 .0))
 
 pub task-cells-spec : {M : Type 1} → statement M
 task-cells-spec =
-    tie.close (tie.spec subject-requires answer-requires deadline-requires cells-requires returns)
+    tie.close
+    (tie.spec
+    task-requires
+    weigh-requires
+    answer-requires
+    deadline-requires
+    cells-requires
+    returns)

@@ -4,18 +4,18 @@ use mathlib.Core.Path.{sym, _∙_}
 use Prim.Native.Nat.{_-_, _≤_}
 use native.Mathlib.Omega.{arith}
 use Rattle.table.specs.Limits.{horizon}
-use Rattle.image.specs.Row.{tableOf}
 use Rattle.analysis.specs.Bound.{busy}
 use Rattle.analysis.specs.Walk.{beyond?}
 use Rattle.analysis.proofs.Charges.{busy-some}
 use Rattle.sumpcandle.specs.Lent.{longest}
+use Rattle.sumpcandle.specs.Work.{tableAt}
 use Rattle.sumpcandle.proofs.Chain.{Left, left-all, left-came, left-over, left-on, left-none}
 use Rattle.sumpcandle.proofs.chains.busy_chain.Statement.{statement}
 use Rattle.sumpcandle.proofs.chains.busy_chain.Tie as tie
 
 abbrev Inv-loop : tie.InvT-loop
 Inv-loop row s x budget used horizon made₀ t₀ made t =
-    Left (busy (tableOf row) (s .u) (s .a) (x .mode) (x .candidate)) beyond? budget used 1 made t
+    Left (busy (tableAt row) (s .u) (s .a) (x .mode) (x .candidate)) beyond? budget used 1 made t
     × ((1 ≤ t) × (t ≤ longest))
 
 abbrev μ-loop : tie.MeasureT-loop
@@ -61,7 +61,7 @@ loop-again c =
     let value = c .before .before .busy .ensures in
     let short : c .before .before .busy .result .0 ≤ longest = omega arith in (
       rw value (left-on _ beyond? (inv .0) (c .before .before .before .loop-test .taken) (λ e. c .before .if1 .left (value ∙ e)) (λ o. omega arith)),
-      (rw value (busy-some (lent .kept) (subject .isTask) (turn .setting) (inv .1 .0)), short),
+      (rw value (busy-some (lent .holds .kept) (subject .chosen .isTask) (turn .setting) (inv .1 .0)), short),
     )
 
 returns-3 : tie.Need-returns-3 Inv-loop μ-loop

@@ -12,12 +12,12 @@ use Rattle.sumpcandle.proofs.chains.demand.Tie as tie
 start-requires : tie.Need-start-requires
 start-requires c κs =
     let (lent, (subject, (turn, (near, short)))) = c .pre in
-    (turn-first (lent .kept) (subject .isTask) turn, (near, (turn-blocking (lent .kept) (subject .isTask) turn, turn-time (lent .kept) (subject .isTask) turn)))
+    (turn-first (lent .holds .kept) (subject .chosen .isTask) turn, (near, (turn-blocking (lent .holds .kept) (subject .chosen .isTask) turn, turn-time (lent .holds .kept) (subject .chosen .isTask) turn)))
 
 rivals-requires : tie.Need-rivals-requires
 rivals-requires c κs =
     let (lent, (subject, (turn, (near, short)))) = c .before .pre in
-    (lent, (subject, (turn-candidate (lent .kept) (subject .isTask) turn, (turn .setting .mode, short))))
+    (lent, (subject, (turn-candidate (lent .holds .kept) (subject .chosen .isTask) turn, (turn .setting .mode, short))))
 
 add-t9 : tie.Need-add-t9
 add-t9 c =
@@ -26,9 +26,9 @@ add-t9 c =
     omega (
       arith,
       c .before .before .before .start .ensures,
-      start-le (lent .kept) (subject .isTask) turn (a .p .0) near,
+      start-le (lent .holds .kept) (subject .chosen .isTask) turn (a .p .0) near,
       c .before .before .rivals .ensures,
-      rivals-lt (lent .kept) (a .whole) short (a .s .u) (a .s .a) (subject .isTask .owner) (turn .setting .mode) (a .x .candidate),
+      rivals-lt (lent .holds .kept) (a .whole) short (a .s .u) (a .s .a) (subject .chosen .isTask .owner) (turn .setting .mode) (a .x .candidate),
     )
 
 returns : tie.Need-returns
@@ -36,7 +36,7 @@ unfolding demand start
 returns c =
     let a = c .before .before .before .before .args in
     let (lent, (subject, (turn, (near, short)))) = c .before .before .before .before .pre in
-    ap₂ (λ (x y : ℕ). x + y) (c .before .before .before .start .ensures ∙ turn-start (lent .kept) (subject .isTask) turn (a .p .0)) (c .before .before .rivals .ensures)
+    ap₂ (λ (x y : ℕ). x + y) (c .before .before .before .start .ensures ∙ turn-start (lent .holds .kept) (subject .chosen .isTask) turn (a .p .0)) (c .before .before .rivals .ensures)
 
 pub demand-spec : {M : Type 1} → statement M
 demand-spec = tie.close (tie.spec start-requires rivals-requires add-t9 returns)

@@ -1,67 +1,82 @@
--- The loop sums the rivals before j. What they charge together stays within what a transaction charges at most. Assumes
--- nothing.
-use mathlib.Core.Path.{_≡_, refl}
-use Prim.Native.Nat.{_-_, _≤_}
+-- Held-back sum, whole periods and rests together are the charge, which is far below 2 ^ 64. Assumes nothing.
+use borrow.Author.Needs.{needs}
+use mathlib.Core.Path.{sym}
 use native.Mathlib.Omega.{arith}
-use Rattle.table.specs.Sum.{sum as sumOf}
-use Rattle.image.specs.Row.{tableOf}
-use Rattle.analysis.specs.Charge.{charge}
-use Rattle.sumpcandle.proofs.Ranges.{rivalCharge, sum-next, charge-room}
+use Rattle.sumpcandle.proofs.Split.{charge-split, charge-ceiling}
+use Rattle.sumpcandle.proofs.Readings.{whole-le, passed-le, held-back-le}
 use Rattle.sumpcandle.proofs.charges.charge.Statement.{statement}
 use Rattle.sumpcandle.proofs.charges.charge.Tie as tie
 
-abbrev Inv-loop : tie.InvT-loop
-Inv-loop row s whole i m c t count sum₀ j₀ sum j =
-    (j ≤ count) × (sum ≡ sumOf j (rivalCharge whole (tableOf row) (s .u) (s .a) i m c (t .0)))
+whole-periods-requires : tie.Need-whole-periods-requires
+whole-periods-requires c κs = search needs
 
-abbrev μ-loop : tie.MeasureT-loop
-μ-loop row s whole i m c t count sum₀ j₀ sum j = count - j
+load-requires : tie.Need-load-requires
+load-requires c κs = search needs
 
-tasks-requires : tie.Need-tasks-requires Inv-loop μ-loop
-tasks-requires c κs = (c .pre .0, c .pre .1 .1 .0 .owner)
+mul-passed : tie.Need-mul-passed
+mul-passed c =
+    let s = c .before .before in
+    let (lent, (subject, (isTask, (mode, split)))) = s .pre in
+    rw (c .before .whole-periods .ensures, c .load .ensures)
+    (omega (arith, whole-le (lent .holds .kept) split mode (s .args .s .u) (s .args .s .a) (s .args .whole)))
 
-loop-holds : tie.Need-loop-holds Inv-loop μ-loop
-unfolding sumOf
-loop-holds c = (omega arith, refl)
+rests-requires : tie.Need-rests-requires
+rests-requires c κs = search needs
 
-rival-charge-requires : tie.Need-rival-charge-requires Inv-loop μ-loop
-rival-charge-requires c κs =
-    let pre = c .before .before .before .pre in
-    (pre .0, (pre .1 .0, (pre .1 .1 .0, (record { owner = pre .1 .1 .0 .owner; place = omega arith }, pre .1 .1 .1))))
+wide-requires : tie.Need-wide-requires
+wide-requires c κs = search needs
 
-add-sum : tie.Need-add-sum Inv-loop μ-loop
-add-sum c =
-    let a = c .before .before .before .before .before .args in
-    let pre = c .before .before .before .before .before .pre in
-    let room = charge-room (pre .0 .kept) (a .whole) (pre .1 .1 .1 .1) (a .s .u) (a .s .a) (pre .1 .1 .0 .owner) (pre .1 .1 .1 .0) in
-    omega (arith, room (a .c) (c .before .before .before .loop .j) (omega arith))
+held-back-requires : tie.Need-held-back-requires
+held-back-requires c κs = search needs
 
-add-j : tie.Need-add-j Inv-loop μ-loop
-add-j c = omega arith
-
-loop-less : tie.Need-loop-less Inv-loop μ-loop
-loop-less c = omega arith
-
-loop-again : tie.Need-loop-again Inv-loop μ-loop
-loop-again c = (omega arith, rw sum-next (omega arith))
-
-returns : tie.Need-returns Inv-loop μ-loop
-unfolding charge
+returns : tie.Need-returns
 returns c =
-    let all : c .before .loop .j ≡ c .before .before .tasks .result = omega arith in
-    cc
+    let s = c .before .before .before .before .before in
+    let (lent, (subject, (isTask, (mode, split)))) = s .pre in
+    let load = c .before .before .before in
+    rw (c .held-back .ensures, load .before .whole-periods .ensures, load .load .ensures, c .before .wide .ensures, c .before .before .rests .ensures)
+    (sym (charge-split (lent .holds .kept) (s .args .whole) split (s .args .s .u) (s .args .s .a) (s .args .m) (s .args .c)))
+
+add-t11 : tie.Need-add-t11
+add-t11 c =
+    let s = c .before .before .before .before .before in
+    let (lent, (subject, (isTask, (mode, split)))) = s .pre in
+    let kept = lent .holds .kept in
+    let u = s .args .s .u in
+    let a = s .args .s .a in
+    omega (
+      arith,
+      returns c,
+      charge-ceiling kept (s .args .whole) split u a (s .args .m) (s .args .c),
+      held-back-le kept u a (isTask .owner) mode (s .args .c),
+      passed-le kept split mode u a,
+    )
+
+add-t13 : tie.Need-add-t13
+add-t13 c =
+    let s = c .before .before .before .before .before in
+    let (lent, (subject, (isTask, (mode, split)))) = s .pre in
+    let kept = lent .holds .kept in
+    let u = s .args .s .u in
+    let a = s .args .s .a in
+    omega (
+      arith,
+      returns c,
+      charge-ceiling kept (s .args .whole) split u a (s .args .m) (s .args .c),
+      held-back-le kept u a (isTask .owner) mode (s .args .c),
+      passed-le kept split mode u a,
+    )
 
 pub charge-spec : {M : Type 1} → statement M
 charge-spec =
     tie.close
     (tie.spec
-    Inv-loop
-    μ-loop
-    tasks-requires
-    loop-holds
-    rival-charge-requires
-    add-sum
-    add-j
-    loop-less
-    loop-again
+    whole-periods-requires
+    load-requires
+    mul-passed
+    rests-requires
+    wide-requires
+    held-back-requires
+    add-t11
+    add-t13
     returns)

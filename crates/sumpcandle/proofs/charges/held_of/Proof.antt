@@ -1,37 +1,40 @@
--- The jobs held back: whole periods in jitter and phase together. Assumes nothing.
+-- The count of jobs held back stands in its cell. Assumes nothing.
 use borrow.Author.Needs.{needs}
+use mathlib.Core.Path.{_≡_, ap, _∙_}
+use Prim.Native.Nat.{ℕ, _+_, _*_}
 use native.Mathlib.Omega.{arith}
-use Rattle.periods.specs.Phase.{held}
-use Rattle.analysis.specs.Charge.{heldOf}
-use Rattle.analysis.proofs.Charges.{kept-period}
-use Rattle.sumpcandle.proofs.Ranges.{jitter-lt, phase-of-lt}
+use lib.ListN.{getD}
+use Rattle.table.specs.Limits.{tasksMost}
+use Rattle.table.specs.Number.{number}
+use Rattle.sumpcandle.specs.Work.{tableAt, heldCell}
 use Rattle.sumpcandle.proofs.charges.held_of.Statement.{statement}
 use Rattle.sumpcandle.proofs.charges.held_of.Tie as tie
 
-jitter-requires : tie.Need-jitter-requires
-jitter-requires c κs = search needs
+place-requires : tie.Need-place-requires
+place-requires c κs = search needs
 
-phase-of-requires : tie.Need-phase-of-requires
-phase-of-requires c κs = search needs
+add-wide : tie.Need-add-wide
+add-wide c = search needs
 
-add-result : tie.Need-add-result
-add-result c =
-    let pre = c .before .before .pre in
-    omega (arith, jitter-lt (pre .0 .kept) (pre .1 .1), phase-of-lt (pre .0 .kept) (pre .1 .1) (c .before .before .args .c))
+mul-wide : tie.Need-mul-wide
+mul-wide c = search needs
 
-period-requires : tie.Need-period-requires
-period-requires c κs = search needs
+element-copy-out-wide : tie.Need-element-copy-out-wide
+element-copy-out-wide c = search needs
 
-div-result : tie.Need-div-result
-div-result c =
-    let pre = c .before .before .before .pre in
-    omega (arith, kept-period (pre .0 .kept) (pre .1 .0 .owner))
+wide-requires : tie.Need-wide-requires
+wide-requires c κs = search needs
 
 returns : tie.Need-returns
-unfolding heldOf held
-returns c = cc
+returns c =
+    let s = c .before .before .before in
+    let a = s .args in
+    let (lent, (candidate, isTask)) = s .pre in
+    let at : heldCell + c .before .before .place .result ≡ heldCell + tasksMost * number (tableAt (a .row .now)) (a .i) (a .c) + a .j =
+    omega (arith, c .before .before .place .ensures .0) in
+    c .wide .ensures ∙ ap (λ (n : ℕ). getD (a .row .now) n 0) at ∙ lent .held (a .i) (a .c) (a .j) candidate isTask
 
 pub held-of-spec : {M : Type 1} → statement M
 held-of-spec =
     tie.close
-    (tie.spec jitter-requires phase-of-requires add-result period-requires div-result returns)
+    (tie.spec place-requires add-wide mul-wide element-copy-out-wide wide-requires returns)

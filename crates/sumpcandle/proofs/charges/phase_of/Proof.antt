@@ -1,46 +1,40 @@
--- The phase of the offset from the instant that the candidate sets. Assumes nothing.
+-- The phase of task j stands in its cell. Assumes nothing.
 use borrow.Author.Needs.{needs}
+use mathlib.Core.Path.{_≡_, ap, _∙_}
+use Prim.Native.Nat.{ℕ, _+_, _*_}
 use native.Mathlib.Omega.{arith}
-use Rattle.analysis.specs.Charge.{phaseOf}
-use Rattle.analysis.proofs.Charges.{kept-period}
-use Rattle.sumpcandle.proofs.Ranges.{offset-lt, jitter-lt}
+use lib.ListN.{getD}
+use Rattle.table.specs.Limits.{tasksMost}
+use Rattle.table.specs.Number.{number}
+use Rattle.sumpcandle.specs.Work.{tableAt, phasesCell}
 use Rattle.sumpcandle.proofs.charges.phase_of.Statement.{statement}
 use Rattle.sumpcandle.proofs.charges.phase_of.Tie as tie
 
-period-requires : tie.Need-period-requires
-period-requires c κs = search needs
+place-requires : tie.Need-place-requires
+place-requires c κs = search needs
 
-offset-requires : tie.Need-offset-requires
-offset-requires c κs = search needs
+add-wide : tie.Need-add-wide
+add-wide c = search needs
 
-offset-requires-2 : tie.Need-offset-requires-2
-offset-requires-2 c κs = search needs
+mul-wide : tie.Need-mul-wide
+mul-wide c = search needs
 
-jitter-requires : tie.Need-jitter-requires
-jitter-requires c κs = search needs
+element-copy-out-wide : tie.Need-element-copy-out-wide
+element-copy-out-wide c = search needs
 
-add-phase : tie.Need-add-phase
-add-phase c =
-    let pre = c .before .before .before .before .pre in
-    omega (arith, offset-lt (pre .0 .kept) (pre .1 .0), jitter-lt (pre .0 .kept) (pre .1 .0))
-
-phase-requires : tie.Need-phase-requires
-phase-requires c κs =
-    let pre = c .before .before .before .before .pre in
-    omega (arith, kept-period (pre .0 .kept) (pre .1 .0 .owner))
+wide-requires : tie.Need-wide-requires
+wide-requires c κs = search needs
 
 returns : tie.Need-returns
-unfolding phaseOf
-returns c = cc
+returns c =
+    let s = c .before .before .before in
+    let a = s .args in
+    let (lent, (candidate, isTask)) = s .pre in
+    let at : phasesCell + c .before .before .place .result ≡ phasesCell + tasksMost * number (tableAt (a .row .now)) (a .i) (a .c) + a .j =
+    omega (arith, c .before .before .place .ensures .0) in
+    c .wide .ensures ∙ ap (λ (n : ℕ). getD (a .row .now) n 0) at ∙ lent .phases (a .i) (a .c) (a .j) candidate isTask
 
 pub phase-of-spec : {M : Type 1} → statement M
 phase-of-spec =
     tie.close
-    (tie.spec
-    period-requires
-    offset-requires
-    offset-requires-2
-    jitter-requires
-    add-phase
-    phase-requires
-    returns)
+    (tie.spec place-requires add-wide mul-wide element-copy-out-wide wide-requires returns)

@@ -1,6 +1,7 @@
 -- The major frame stands in its cell of the header. Assumes nothing.
 use borrow.Author.Needs.{needs}
-use Rattle.image.specs.Row.{tableOf}
+use mathlib.Core.Path.{sym, _∙_}
+use Rattle.sumpcandle.proofs.Fields.{frame-cell}
 use Rattle.sumpcandle.proofs.row.frame.Statement.{statement}
 use Rattle.sumpcandle.proofs.row.frame.Tie as tie
 
@@ -11,8 +12,7 @@ wide-requires : tie.Need-wide-requires
 wide-requires c κs = search needs
 
 returns : tie.Need-returns
-unfolding tableOf
-returns c = c .wide .ensures
+returns c = c .wide .ensures ∙ sym (frame-cell (c .before .before .args .row .now))
 
 pub frame-spec : {M : Type 1} → statement M
 frame-spec = tie.close (tie.spec element-copy-out-wide wide-requires returns)

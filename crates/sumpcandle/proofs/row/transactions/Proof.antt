@@ -1,7 +1,7 @@
 -- The count of transactions stands in its cell of the header. Assumes nothing.
 use borrow.Author.Needs.{needs}
 use mathlib.Core.Path.{sym, _∙_}
-use Rattle.image.proofs.Held.{held-transactions}
+use Rattle.sumpcandle.proofs.Fields.{transactions-cell}
 use Rattle.sumpcandle.proofs.row.transactions.Statement.{statement}
 use Rattle.sumpcandle.proofs.row.transactions.Tie as tie
 
@@ -12,7 +12,7 @@ index-requires : tie.Need-index-requires
 index-requires c κs = search needs
 
 returns : tie.Need-returns
-returns c = c .index .ensures ∙ sym (held-transactions (c .before .before .args .row .now))
+returns c = c .index .ensures ∙ sym (transactions-cell (c .before .before .args .row .now))
 
 pub transactions-spec : {M : Type 1} → statement M
 transactions-spec = tie.close (tie.spec element-copy-out-index index-requires returns)

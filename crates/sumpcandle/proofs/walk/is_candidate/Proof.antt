@@ -3,8 +3,8 @@ use borrow.Author.Needs.{needs}
 use mathlib.Core.Path.{sym, _∙_}
 use mathlib.Core.Logic.{inl}
 use denote.Ref.{now}
-use Rattle.image.specs.Row.{tableOf}
 use Rattle.analysis.specs.Rival.{candidate?}
+use Rattle.sumpcandle.specs.Work.{tableAt}
 use Rattle.sumpcandle.proofs.Flags.{tested-yes}
 use Rattle.sumpcandle.proofs.Walks.{candidate-other}
 use Rattle.sumpcandle.proofs.walk.is_candidate.Statement.{statement}
@@ -13,7 +13,7 @@ use Rattle.sumpcandle.proofs.walk.is_candidate.Tie as tie
 returns : tie.Need-returns
 returns c =
     let a = c .before .before .args in
-    sym (tested-yes (candidate? (tableOf (now (a .row))) (a .s .u) (a .s .a) (a .m) (a .c)) (inl (c .if1 .taken)))
+    sym (tested-yes (candidate? (tableAt (now (a .row))) (a .s .u) (a .s .a) (a .m) (a .c)) (inl (c .if1 .taken)))
 
 is-rival-requires : tie.Need-is-rival-requires
 is-rival-requires c κs = search needs

@@ -7,7 +7,6 @@ use Prim.Native.Nat.{_-_, _≤_, max}
 use native.Mathlib.Nat.{le-trans}
 use native.Mathlib.Omega.{arith}
 use Rattle.table.specs.Table.{Table}
-use Rattle.image.specs.Row.{tableOf}
 use Rattle.periods.specs.Charge.{imposed}
 use Rattle.analysis.specs.Choice.{count}
 use Rattle.analysis.specs.Bound.{demand, response}
@@ -15,6 +14,7 @@ use Rattle.analysis.specs.Needed.{job}
 use Rattle.analysis.specs.Walk.{walkJobs}
 use Rattle.sumpcandle.specs.Turn.{Near, Reaches, walked}
 use Rattle.sumpcandle.specs.Lent.{longest}
+use Rattle.sumpcandle.specs.Work.{tableAt}
 use Rattle.sumpcandle.specs.declared.walk.Walked.the-variants.{Through}
 use Rattle.sumpcandle.proofs.Chain.{Comes}
 use Rattle.sumpcandle.proofs.Turns.{turn-first, turn-period, turn-phase, turn-offset, turn-job, turn-response, jobs-few, job-near, lasts-reaches, reaches-comes}
@@ -25,26 +25,26 @@ use Rattle.sumpcandle.proofs.walk.Walk.job.Tie as tie
 job-requires : tie.Need-job-requires
 job-requires c κs =
     let (lent, (subject, (turn, (lasts, (l, within))))) = c .before .pre in
-    (turn-first (lent .kept) (subject .isTask) turn, omega (arith, l, lasts .jobs, jobs-few (lent .kept) (subject .isTask) (c .before .args .x .candidate) (lasts .within)))
+    (turn-first (lent .holds .kept) (subject .chosen .isTask) turn, omega (arith, l, lasts .jobs, jobs-few (lent .holds .kept) (subject .chosen .isTask) (c .before .args .x .candidate) (lasts .within)))
 
 abbrev tab : tie.Start → Table
-tab c = tableOf (now (c .args .row))
+tab c = tableAt (now (c .args .row))
 
 -- the job's number
 number : (c : tie.After-job) → let d = c .before .before in let a = d .args in c .job .result .0 ≡ job (tab d) (a .s .u) (a .s .a) (a .x .candidate) (a .n)
 number c =
     let (lent, (subject, (turn, (lasts, (l, within))))) = c .before .before .pre in
-    c .job .ensures ∙ turn-job (lent .kept) (subject .isTask) turn (c .before .before .args .n)
+    c .job .ensures ∙ turn-job (lent .holds .kept) (subject .chosen .isTask) turn (c .before .before .args .n)
 
 near : (c : tie.After-job) → Near (c .job .result .0)
 near c =
     let (lent, (subject, (turn, (lasts, (l, within))))) = c .before .before .pre in
-    rw (number c) (job-near (lent .kept) (subject .isTask) (c .before .before .args .x .candidate) (lasts .within) (rw (lasts .jobs) at l))
+    rw (number c) (job-near (lent .holds .kept) (subject .chosen .isTask) (c .before .before .args .x .candidate) (lasts .within) (rw (lasts .jobs) at l))
 
 reaches : (c : tie.After-job) → let d = c .before .before in let a = d .args in Reaches (tab d) (a .s .u) (a .s .a) (a .x .mode) (a .x .candidate) (c .job .result .0)
 reaches c =
     let (lent, (subject, (turn, (lasts, (l, within))))) = c .before .before .pre in
-    rw (number c) (lasts-reaches (lent .kept) (subject .isTask) lasts l)
+    rw (number c) (lasts-reaches (lent .holds .kept) (subject .chosen .isTask) lasts l)
 
 job-chain-requires : tie.Need-job-chain-requires
 job-chain-requires c κs =
@@ -71,16 +71,16 @@ short c =
     let a = s .args in
     let r = reaches d in
     let stop = sym (c .before .before .job-chain .ensures) ∙ c .w .given .1 in
-    let back = subst (Comes (a .budget) (λ w. (w ≤ r .t) × (demand imposed (tab s) (a .s .u) (a .s .a) (a .x .mode) (a .x .candidate) (d .job .result .0) w ≡ w))) stop (reaches-comes (lent .kept) (subject .isTask) r (a .budget) (a .budget - a .self .used)) in
+    let back = subst (Comes (a .budget) (λ w. (w ≤ r .t) × (demand imposed (tab s) (a .s .u) (a .s .a) (a .x .mode) (a .x .candidate) (d .job .result .0) w ≡ w))) stop (reaches-comes (lent .holds .kept) (subject .chosen .isTask) r (a .budget) (a .budget - a .self .used)) in
     le-trans (back .0 .0) (r .within)
 
 response-requires : tie.Need-response-requires
 response-requires c κs =
     let d = c .before .before .before .before in
     let (lent, (subject, (turn, (lasts, (l, within))))) = d .before .before .pre in
-    let phase = turn-phase (lent .kept) (subject .isTask) turn in
-    let period = turn-period (lent .kept) (subject .isTask) turn in
-    (period, (omega arith, (turn-offset (lent .kept) (subject .isTask) turn, (near d, short (c .before)))))
+    let phase = turn-phase (lent .holds .kept) (subject .chosen .isTask) turn in
+    let period = turn-period (lent .holds .kept) (subject .chosen .isTask) turn in
+    (period, (omega arith, (turn-offset (lent .holds .kept) (subject .chosen .isTask) turn, (near d, short (c .before)))))
 
 greater-requires : tie.Need-greater-requires
 greater-requires c κs = search needs
@@ -96,7 +96,7 @@ answer : (c : tie.After-response) → let d = c .before .before .before .before 
 answer c =
     let d = c .before .before .before .before .before in
     let (lent, (subject, (turn, (lasts, (l, within))))) = d .before .before .pre in
-    rw (← (number d), ← (turn-response (lent .kept) (subject .isTask) turn (d .job .result .0) (c .before .before .w .given .0 .0 .0))) (c .response .ensures)
+    rw (← (number d), ← (turn-response (lent .holds .kept) (subject .chosen .isTask) turn (d .job .result .0) (c .before .before .w .given .0 .0 .0))) (c .response .ensures)
 
 returns : tie.Need-returns
 returns c =

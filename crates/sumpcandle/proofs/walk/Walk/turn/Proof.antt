@@ -7,12 +7,12 @@ use Prim.Native.Nat.{ℕ, _-_, _≤_}
 use native.Mathlib.Nat.{le-of-eq}
 use native.Mathlib.Omega.{arith}
 use Rattle.table.specs.Table.{Table}
-use Rattle.image.specs.Row.{tableOf}
 use Rattle.periods.specs.Charge.{imposed}
 use Rattle.analysis.specs.Bound.{lastJob, jobsTo, busy}
 use Rattle.analysis.specs.Walk.{walkJobs, walkTurn}
 use Rattle.sumpcandle.specs.Lent.{longest}
 use Rattle.sumpcandle.specs.Turn.{IsTurn, walked}
+use Rattle.sumpcandle.specs.Work.{tableAt}
 use Rattle.sumpcandle.proofs.Chain.{Comes}
 use Rattle.sumpcandle.proofs.Turns.{turn-own, turn-first, turn-period, turn-phase, turn-last, turn-jobs, last-near, busy-comes}
 use Rattle.sumpcandle.proofs.Walks.{afterStop, turn-walked}
@@ -23,13 +23,13 @@ turn-of-requires : tie.Need-turn-of-requires
 turn-of-requires c κs = search needs
 
 abbrev tab : tie.Start → Table
-tab c = tableOf (now (c .args .row))
+tab c = tableAt (now (c .args .row))
 
 -- the turn, by the mode and the candidate that it holds
 own : (c : tie.After-turn-of) → let a = c .before .args in let x = c .turn-of .result in IsTurn (tab (c .before)) (a .s .u) (a .s .a) (x .mode) (x .candidate) x
 own c =
     let (lent, (subject, (setting, within))) = c .before .pre in
-    turn-own (lent .kept) (subject .isTask) (c .turn-of .ensures)
+    turn-own (lent .holds .kept) (subject .chosen .isTask) (c .turn-of .ensures)
 
 busy-chain-requires : tie.Need-busy-chain-requires
 busy-chain-requires c κs =
@@ -56,7 +56,7 @@ comes c =
     let (lent, (subject, (setting, within))) = d .before .pre in
     let a = d .before .args in
     subst (Comes (a .budget) (Back d)) (sym (c .before .before .busy-chain .ensures) ∙ c .length .given .1)
-    (busy-comes (lent .kept) (subject .isTask) (own d .setting) (a .budget) (a .budget - a .self .used))
+    (busy-comes (lent .holds .kept) (subject .chosen .isTask) (own d .setting) (a .budget) (a .budget - a .self .used))
 
 enum-known-length : tie.Need-enum-known-length
 enum-known-length c = search needs
@@ -65,26 +65,26 @@ last-job-requires : tie.Need-last-job-requires
 last-job-requires c κs =
     let d = c .before .before .before .before .before .before .before in
     let (lent, (subject, (setting, within))) = d .before .pre in
-    (turn-phase (lent .kept) (subject .isTask) (own d), (turn-period (lent .kept) (subject .isTask) (own d), comes (c .before .before .before .before) .0 .0))
+    (turn-phase (lent .holds .kept) (subject .chosen .isTask) (own d), (turn-period (lent .holds .kept) (subject .chosen .isTask) (own d), comes (c .before .before .before .before) .0 .0))
 
 last : (c : tie.After-last-job) → let d = c .before .before .before .before .before .before .before .before in let a = d .before .args in c .last-job .result .0 ≡ lastJob (tab (d .before)) (a .s .u) (a .s .a) (d .turn-of .result .candidate) (c .before .before .before .before .before .length .given .0 .0 .0)
 last c =
     let d = c .before .before .before .before .before .before .before .before in
     let (lent, (subject, (setting, within))) = d .before .pre in
-    c .last-job .ensures ∙ turn-last (lent .kept) (subject .isTask) (own d) (c .before .before .before .before .before .length .given .0 .0 .0)
+    c .last-job .ensures ∙ turn-last (lent .holds .kept) (subject .chosen .isTask) (own d) (c .before .before .before .before .before .length .given .0 .0 .0)
 
 jobs-to-requires : tie.Need-jobs-to-requires
 jobs-to-requires c κs =
     let d = c .before .before .before .before .before .before .before .before in
     let (lent, (subject, (setting, within))) = d .before .pre in
     let k = comes (c .before .before .before .before .before) in
-    (turn-first (lent .kept) (subject .isTask) (own d), rw (last c) (last-near (lent .kept) (subject .isTask) (d .turn-of .result .candidate) (k .0 .0 .1)))
+    (turn-first (lent .holds .kept) (subject .chosen .isTask) (own d), rw (last c) (last-near (lent .holds .kept) (subject .chosen .isTask) (d .turn-of .result .candidate) (k .0 .0 .1)))
 
 jobs : (c : tie.After-jobs-to) → let d = c .before .before .before .before .before .before .before .before .before in let a = d .before .args in c .jobs-to .result ≡ jobsTo (tab (d .before)) (a .s .u) (a .s .a) (d .turn-of .result .candidate) (lastJob (tab (d .before)) (a .s .u) (a .s .a) (d .turn-of .result .candidate) (c .before .before .before .before .before .before .length .given .0 .0 .0))
 jobs c =
     let d = c .before .before .before .before .before .before .before .before .before in
     let (lent, (subject, (setting, within))) = d .before .pre in
-    rw (← (last (c .before))) (c .jobs-to .ensures ∙ turn-jobs (lent .kept) (subject .isTask) (own d) (c .before .last-job .result .0))
+    rw (← (last (c .before))) (c .jobs-to .ensures ∙ turn-jobs (lent .holds .kept) (subject .chosen .isTask) (own d) (c .before .last-job .result .0))
 
 jobs-requires : tie.Need-jobs-requires
 jobs-requires c κs =

@@ -1,0 +1,22 @@
+// The working row: the table's row, and behind it what is worked out of it once, so that an evaluation reads it.
+use image::Table;
+use image::Transaction;
+
+pub(crate) struct Work;
+
+impl Work {
+    // A phase and a held-back count for each task as candidate and each place in its transaction.
+    pub(crate) const PHASES: usize = Table::CELLS;
+
+    pub(crate) const HELD: usize = Work::PHASES + Table::TASKS * Transaction::TASKS;
+
+    // For the task under analysis: a weight for each mode and task, a load for each transaction and mode, and for each
+    // task as candidate and each mode a held-back sum in two cells.
+    pub(crate) const WEIGHTS: usize = Work::HELD + Table::TASKS * Transaction::TASKS;
+
+    pub(crate) const LOADS: usize = Work::WEIGHTS + Transaction::MODES * Table::TASKS;
+
+    pub(crate) const SUMS: usize = Work::LOADS + Table::TRANSACTIONS * Transaction::MODES;
+
+    pub(crate) const CELLS: usize = Work::SUMS + 2 * (Table::TASKS * Transaction::MODES);
+}
