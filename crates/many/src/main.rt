@@ -4,7 +4,8 @@
 use libc::STDIN_FILENO;
 use libc::STDOUT_FILENO;
 use sumpcandle::Filled;
-ghost use Prim.Native.Nat.{_<_};
+ghost use Prim.Native.Nat.{_<_, _≤_};
+ghost use lib.ListN.{length};
 
 const CELLS: usize = 192;
 
@@ -15,27 +16,80 @@ fn two(high: u8, low: u8) -> u32
     (high as u32) * 256 + low as u32
 }
 
-fn number(x: u32) {
-    io::write_all(STDOUT_FILENO, b" ");
-    io::print_decimal(STDOUT_FILENO, x as u64);
+fn wide(x: u32) -> u64 {
+    x as u64
+}
+
+// The longest line: `accepted`, 192 numbers of at most 10 digits with a space before each, and its end. A line is made whole
+// and then written by one call.
+const LINE: usize = 2121;
+
+// Puts a byte into the line, and answers where the next one goes.
+fn add(line: &mut [u8], at: usize, x: u8) -> usize
+    requires { ⌜ at ≤ length (now line) ⌝ }
+    ensures { λ r. ⌜ r ≤ length (now (line .exit)) ⌝ }
+{
+    if at < line.len() {
+        line[at] = x;
+        at + 1
+    } else {
+        at
+    }
+}
+
+fn word(line: &mut [u8], at: usize, text: &[u8]) -> usize
+    requires { ⌜ at ≤ length (now line) ⌝ }
+    ensures { λ r. ⌜ r ≤ length (now (line .exit)) ⌝ }
+{
+    let mut end = at;
+    let mut k: usize = 0;
+    while k < text.len() {
+        end = add(line, end, text[k]);
+        k += 1;
+    }
+    end
+}
+
+fn number(line: &mut [u8], at: usize, x: u64) -> usize
+    requires { ⌜ at ≤ length (now line) ⌝ }
+    ensures { λ r. ⌜ r ≤ length (now (line .exit)) ⌝ }
+{
+    let mut digits = [0u8; 20];
+    let count = io::decimal(x, &mut digits);
+    let from = add(line, at, 32);
+    word(line, from, &digits[..count])
+}
+
+fn write(line: &mut [u8], at: usize)
+    requires { ⌜ at ≤ length (now line) ⌝ }
+{
+    let end = add(line, at, 10);
+    io::write_all(STDOUT_FILENO, &line[..end]);
+}
+
+fn cells_of(tasks: usize) -> usize
+    ensures { λ r. ⌜ r ≤ 192 ⌝ }
+{
+    if tasks < CELLS / 3 { 3 * tasks } else { CELLS }
 }
 
 fn accepted(row: &[u32; CELLS], tasks: usize) {
-    io::write_all(STDOUT_FILENO, b"accepted");
-    for k in 0..CELLS {
-        if k / 3 < tasks {
-            number(row[k]);
-        }
+    let mut space = [0u8; LINE];
+    let line: &mut [u8] = &mut space;
+    let mut at = word(line, 0, b"accepted");
+    for k in 0..cells_of(tasks) {
+        at = number(line, at, wide(row[k]));
     }
-    io::write_all(STDOUT_FILENO, b"\n");
+    write(line, at);
 }
 
 fn refused(told: Filled) {
-    io::write_all(STDOUT_FILENO, b"refused");
-    number(told.number());
-    io::write_all(STDOUT_FILENO, b" ");
-    io::print_decimal(STDOUT_FILENO, told.place() as u64);
-    io::write_all(STDOUT_FILENO, b"\n");
+    let mut space = [0u8; LINE];
+    let line: &mut [u8] = &mut space;
+    let start = word(line, 0, b"refused");
+    let middle = number(line, start, wide(told.number()));
+    let end = number(line, middle, told.place() as u64);
+    write(line, end);
 }
 
 // Answers the first n bytes.

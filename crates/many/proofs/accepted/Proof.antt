@@ -1,29 +1,39 @@
--- `many::accepted` ends: each turn leaves fewer cells.
+-- `many::accepted` ends: each turn leaves fewer cells. What is made of the line lies in it.
 use borrow.Author.Needs.{needs}
+use lib.ListN.{length}
 use Prim.Native.Nat.{_-_, _≤_}
 use Rattle.many.proofs.accepted.Statement.{statement}
 use Rattle.many.proofs.accepted.Tie as tie
 
 abbrev Inv-loop : tie.InvT-loop
-Inv-loop row tasks k₀ t5 k = k ≤ 192
+Inv-loop row tasks line₀ at₀ k₀ k-end line at k = (k-end ≤ 192) × (at ≤ length line)
 
 abbrev μ-loop : tie.MeasureT-loop
-μ-loop row tasks k₀ t5 k = 192 - k
+μ-loop row tasks line₀ at₀ k₀ k-end line at k = k-end - k
 
-slice-aggregate-write-all : tie.Need-slice-aggregate-write-all Inv-loop μ-loop
-slice-aggregate-write-all c = search needs
+slice-aggregate-line : tie.Need-slice-aggregate-line Inv-loop μ-loop
+slice-aggregate-line c = search needs
 
-write-all-requires : tie.Need-write-all-requires Inv-loop μ-loop
-write-all-requires c κs = search needs
+slice-aggregate-word : tie.Need-slice-aggregate-word Inv-loop μ-loop
+slice-aggregate-word c = search needs
+
+word-requires : tie.Need-word-requires Inv-loop μ-loop
+word-requires c κs = search needs
+
+cells-of-requires : tie.Need-cells-of-requires Inv-loop μ-loop
+cells-of-requires c κs = search needs
 
 loop-holds : tie.Need-loop-holds Inv-loop μ-loop
 loop-holds c = search needs
 
-mul-number : tie.Need-mul-number Inv-loop μ-loop
-mul-number c = search needs
+mul-wide : tie.Need-mul-wide Inv-loop μ-loop
+mul-wide c = search needs
 
-element-copy-out-number : tie.Need-element-copy-out-number Inv-loop μ-loop
-element-copy-out-number c = search needs
+element-copy-out-wide : tie.Need-element-copy-out-wide Inv-loop μ-loop
+element-copy-out-wide c = search needs
+
+wide-requires : tie.Need-wide-requires Inv-loop μ-loop
+wide-requires c κs = search needs
 
 number-requires : tie.Need-number-requires Inv-loop μ-loop
 number-requires c κs = search needs
@@ -37,11 +47,8 @@ loop-less c = search needs
 loop-again : tie.Need-loop-again Inv-loop μ-loop
 loop-again c = search needs
 
-slice-aggregate-write-all-2 : tie.Need-slice-aggregate-write-all-2 Inv-loop μ-loop
-slice-aggregate-write-all-2 c = search needs
-
-write-all-requires-2 : tie.Need-write-all-requires-2 Inv-loop μ-loop
-write-all-requires-2 c κs = search needs
+write-requires : tie.Need-write-requires Inv-loop μ-loop
+write-requires c κs = search needs
 
 returns : tie.Need-returns Inv-loop μ-loop
 returns c = search needs
@@ -52,15 +59,17 @@ accepted-spec =
     (tie.spec
     Inv-loop
     μ-loop
-    slice-aggregate-write-all
-    write-all-requires
+    slice-aggregate-line
+    slice-aggregate-word
+    word-requires
+    cells-of-requires
     loop-holds
-    mul-number
-    element-copy-out-number
+    mul-wide
+    element-copy-out-wide
+    wide-requires
     number-requires
     add-k
     loop-less
     loop-again
-    slice-aggregate-write-all-2
-    write-all-requires-2
+    write-requires
     returns)
