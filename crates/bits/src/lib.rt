@@ -23,32 +23,75 @@ pub fn inside(image: &[u8], at: usize, width: usize) -> bool
     at / 8 + width / 8 + (at % 8 + width % 8 + 7) / 8 <= image.len()
 }
 
+// An image and a place in it. The functions over it are few and thin: each takes the reader apart, and leaves the work to
+// a function over the image and the place.
+pub struct Reader<'a> {
+    pub image: &'a [u8],
+    pub at: usize,
+}
+
+// A reader at the image's first bit.
+pub fn new<'a>(image: &'a [u8]) -> Reader<'a>
+    ensures { λ r. ⌜ (r .image ≡ image .entry) × (r .at ≡ 0) ⌝ }
+{
+    Reader { image, at: 0 }
+}
+
+// The reader's place, in bits.
+pub fn at<'a>(r: Reader<'a>) -> usize
+    ensures { λ n. ⌜ n ≡ r .entry .at ⌝ }
+{
+    r.at
+}
+
+// The reader at another place of its image.
+pub fn moved<'a>(r: Reader<'a>, at: usize) -> Reader<'a>
+    ensures { λ q. ⌜ (q .image ≡ r .entry .image) × (q .at ≡ at) ⌝ }
+{
+    Reader { image: r.image, at }
+}
+
+// The field of that width at the reader's place.
+pub fn next<'a>(r: Reader<'a>, width: usize) -> Field
+    ensures { λ f. ⌜ f ≡ fieldAt (now (r .entry .image)) (r .entry .at) width ⌝ }
+{
+    field_at(r.image, r.at, width)
+}
+
+// The field of that width at that position, for any position and any width. A reader is made and asked here alone.
+pub fn read(image: &[u8], at: usize, width: usize) -> Field
+    ensures { λ r. ⌜ r ≡ fieldAt (now (image .entry)) at width ⌝ }
+{
+    next(moved(new(image), at), width)
+}
+
 // The number in a field of at most 32 bits; of a wider one, that in its first 32. A bit past the end of the image is 0,
 // which a caller that asks `inside` first never sees.
 pub fn value(image: &[u8], at: usize, width: usize) -> u32
     ensures { λ r. ⌜ r ≡ valueAt (now (image .entry)) at (min width widest) ⌝ }
 {
-    number(reader(image, at), width)
+    match read(image, at, narrowed(width)) {
+        Field::Holds(v) => v,
+        Field::Ends => value_at(image, at, width),
+        Field::NoWidth => 0,
+    }
 }
 
-// An image and a place in it. The functions over it are thin, since each is proved by a walk of its own: they take it
-// apart, and leave the work to `value_at`.
-pub struct BitReader<'a> {
-    pub image: &'a [u8],
-    pub at: usize,
-}
-
-pub fn reader<'a>(image: &'a [u8], at: usize) -> BitReader<'a>
-    ensures { λ r. ⌜ (r .image ≡ image .entry) × (r .at ≡ at) ⌝ }
+fn field_at(image: &[u8], at: usize, width: usize) -> Field
+    ensures { λ r. ⌜ r ≡ fieldAt (now (image .entry)) at width ⌝ }
 {
-    BitReader { image, at }
-}
-
-// The number in the field of that width at the reader's place.
-pub fn number<'a>(r: BitReader<'a>, width: usize) -> u32
-    ensures { λ v. ⌜ v ≡ valueAt (now (r .entry .image)) (r .entry .at) (min width widest) ⌝ }
-{
-    value_at(r.image, r.at, width)
+    if width == 0 {
+        return Field::NoWidth;
+    }
+    if WIDEST < width {
+        return Field::NoWidth;
+    }
+    let whole = inside(image, at, width);
+    if whole {
+        Field::Holds(value_at(image, at, width))
+    } else {
+        Field::Ends
+    }
 }
 
 fn value_at(image: &[u8], at: usize, width: usize) -> u32
@@ -64,24 +107,6 @@ fn value_at(image: &[u8], at: usize, width: usize) -> u32
         k += 1;
     }
     v
-}
-
-// The field of that width at that position, for any position and any width.
-pub fn read(image: &[u8], at: usize, width: usize) -> Field
-    ensures { λ r. ⌜ r ≡ fieldAt (now (image .entry)) at width ⌝ }
-{
-    if width == 0 {
-        return Field::NoWidth;
-    }
-    if WIDEST < width {
-        return Field::NoWidth;
-    }
-    let whole = inside(image, at, width);
-    if whole {
-        Field::Holds(value(image, at, width))
-    } else {
-        Field::Ends
-    }
 }
 
 fn narrowed(width: usize) -> usize
