@@ -18,7 +18,8 @@ unfolding tested
 tested-no (yes a) h = absurd (h a)
 tested-no (no f) h = refl
 
-never : false ≡ true → ⊥
+-- no flag is both
+pub never : false ≡ true → ⊥
 never e = let z : _≡_ {A = ℕ} 0 1 = cc in omega arith
 
 pub when-false : {A : Type 0} (d : Dec A) (x : ℕ) → tested d ≡ false → when d x ≡ 0

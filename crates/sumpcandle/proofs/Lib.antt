@@ -8,6 +8,7 @@ pub mod Split
 pub mod Readings
 pub mod Phases
 pub mod Flags
+pub mod Rows
 pub mod Loads
 pub mod Signed
 pub mod Chain
@@ -15,3 +16,4 @@ pub mod Turns
 pub mod Walks
 pub mod Filling
 pub mod Weighing
+pub mod Linking

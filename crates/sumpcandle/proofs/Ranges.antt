@@ -113,21 +113,18 @@ later-le : (whole : Bool) {T : ℕ} (C t φ : ℕ) → 0 < T → laterOf whole T
 later-le true {T} C t φ h = rw (released-is T C t φ) (rel-le C t φ h)
 later-le false {T} C t φ h = rw (imposed-is T C t φ) (le-trans (imp≤rel h C (t - φ)) (rel-le C t φ h))
 
-unless-le : {A : Type 0} (d : Dec A) (x : ℕ) → unless d x ≤ x
+pub unless-le : {A : Type 0} (d : Dec A) (x : ℕ) → unless d x ≤ x
 unfolding unless
 unless-le (yes a) x = zero-le
 unless-le (no h) x = le-refl x
 
--- ---- what the loops add up or compare: the charge of a rival, of a candidate, of a mode and of another transaction
+-- ---- what the loops add up or compare: the charge of a rival, of a candidate and of another transaction
 
 abbrev rivalCharge : Bool → Table → (u a i m c t j : ℕ) → ℕ
 rivalCharge whole tab u a i m c t j = when (rival? tab u a i m j) (taskCharge (laterOf whole) tab i m c t j)
 
 abbrev pub candidateCharge : Bool → Table → (u a i m t c : ℕ) → ℕ
 candidateCharge whole tab u a i m t c = when (rival? tab u a i m c) (charge (laterOf whole) tab u a i m c t)
-
-abbrev pub modeCharge : Bool → Table → (u a i t m : ℕ) → ℕ
-modeCharge whole tab u a i t m = most (tasks tab i) (candidateCharge whole tab u a i m t)
 
 abbrev pub otherCharge : Bool → Table → (u a t i : ℕ) → ℕ
 otherCharge whole tab u a t i = unless (ℕ-discrete i u) (greatest (laterOf whole) tab u a i t)
@@ -161,7 +158,7 @@ module _ {tab : Table} (kept : Kept tab) where
       rival-charge-le j l =
           le-trans (when-le (rival? tab u a i m j) _) (task-charge-le (record { owner = h; place = l }) mode c whole short)
 
-      charge-le : charge (laterOf whole) tab u a i m c t ≤ chargeMost
+      pub charge-le : charge (laterOf whole) tab u a i m c t ≤ chargeMost
       unfolding charge
       charge-le = omega (arith, sum-most (tasks tab i) rival-charge-le, tasks-few kept h)
 

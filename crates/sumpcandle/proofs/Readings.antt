@@ -3,7 +3,7 @@ use mathlib.Core.Path.{_≡_, ap, _∙_}
 use mathlib.Core.Bool.{Bool, true, false}
 use mathlib.Core.List.{List}
 use Prim.Native.Nat.{ℕ, _+_, _*_, _-_, _^_, _≤_, _<_}
-use native.Mathlib.Nat.{le-trans, mul-le-mul, mul-le-mul-right, le-mul-of-pos-right}
+use native.Mathlib.Nat.{add-zero, le-trans, mul-le-mul, mul-le-mul-right, le-mul-of-pos-right}
 use native.Mathlib.Omega.{arith}
 use lib.ListN.{getD}
 use Rattle.table.specs.Sum.{sum}
@@ -21,18 +21,9 @@ use Rattle.analysis.proofs.Charges.{kept-period}
 use Rattle.sumpcandle.specs.declared.charges.Subject.{Subject}
 use Rattle.sumpcandle.specs.declared.charges.Split.{Split}
 use Rattle.sumpcandle.specs.Split.{moment, IsSplit, wholePeriods, restOf, restAt, rests}
-use Rattle.sumpcandle.specs.Work.{
-  phasesCell,
-  weightsCell,
-  sumsCell,
-  weight,
-  weights,
-  heldBack,
-  tableAt,
-  Lent,
-  IsSubject,
-}
-use Rattle.sumpcandle.proofs.Ranges.{sum-most, sum-room, tasks-few, time-lt, held-of-lt}
+use Rattle.sumpcandle.specs.Work.{phasesCell, weightsCell, sumsCell, tableAt, Lent, IsSubject}
+use Rattle.sumpcandle.specs.Weight.{weight, weights, heldBack}
+use Rattle.sumpcandle.proofs.Ranges.{sum-most, sum-room, tasks-few, modes-few, period-lt, time-lt, held-of-lt}
 use Rattle.sumpcandle.proofs.Split.{rest-le}
 
 -- ---- ranges
@@ -88,10 +79,22 @@ abbrev pub restCell : List ℕ → Bool → Split → (phases weights j : ℕ) �
 restCell row whole x phases weights j =
     restOf whole (x .periods) (x .period) (x .rest) (getD row (phases + j) 0) (getD row (weights + j) 0)
 
+-- what is read of candidate c in mode m lies within the row, and there is a task
+abbrev pub InRow : Split → (m c : ℕ) → Type 0
+InRow x m c = (x .first + c < tasksInAll) × ((m < modesMost) × ((1 ≤ x .count) × (x .count ≤ tasksMost)))
+
 module _ {row : List ℕ} (lent : Lent row) {i : ℕ} {x : Split} (split : IsSplit (tableAt row) i x) where
   pub place-lt : {j : ℕ} → IsTask (tableAt row) i j → x .first + j < tasksInAll
   unfolding number
   place-lt {j} t = omega (arith, split .first, number-lt (tableAt row) t, lent .holds .kept .fewTasks)
+
+  pub in-row : {m c : ℕ} → IsTask (tableAt row) i c → m < modes (tableAt row) i → InRow x m c
+  unfolding tasks
+  in-row t mode =
+      let kept = lent .holds .kept in
+      let m = modes-few kept (t .owner) in
+      let n = tasks-few kept (t .owner) in
+      (place-lt t, (omega arith, (omega (arith, split .count, kept .each i (t .owner) .someTask), omega (arith, split .count))))
 
   pub phase-at : {c j : ℕ} → IsTask (tableAt row) i c → IsTask (tableAt row) i j → getD row (phasesCell + tasksMost * (x .first + c) + j) 0 ≡ phaseOf (tableAt row) i c j
   unfolding number
@@ -100,22 +103,49 @@ module _ {row : List ℕ} (lent : Lent row) {i : ℕ} {x : Split} (split : IsSpl
   module _ {s : Subject} (subject : IsSubject row s) {m : ℕ} (mode : m < modes (tableAt row) i) where
     pub weight-at : {j : ℕ} → IsTask (tableAt row) i j → getD row (weightsCell + tasksInAll * m + (x .first + j)) 0 ≡ weight (tableAt row) (s .u) (s .a) i m j
     unfolding number
-    weight-at {j} t = rw (split .first) (subject .weight i m j t mode)
+    weight-at {j} t = rw (split .first) (subject .weighs .weight i m j t mode)
+
+    -- the same cell as the code adds it up
+    weight-in : {j : ℕ} → IsTask (tableAt row) i j → getD row (weightsCell + tasksInAll * m + x .first + j) 0 ≡ weight (tableAt row) (s .u) (s .a) i m j
+    weight-in {j} t =
+        let e : weightsCell + tasksInAll * m + x .first + j ≡ weightsCell + tasksInAll * m + (x .first + j) = omega arith in
+        ap (λ (n : ℕ). getD row n 0) e ∙ weight-at t
+
+    -- the cells of task j are as `rest_of` requires
+    pub rest-needs :
+        {c : ℕ}
+        → IsTask (tableAt row) i c
+        → (j : ℕ)
+        → j < x .count
+        → (x .period < 2 ^ 24)
+        × ((x .rest < x .period)
+        × ((getD row (phasesCell + tasksMost * (x .first + c) + j) 0 < x .period)
+        × (getD row (weightsCell + tasksInAll * m + x .first + j) 0 < 2 ^ 24)))
+    rest-needs {c} k j l =
+        let kept = lent .holds .kept in
+        let own : j < tasks (tableAt row) i = omega (arith, split .count) in
+        let t : IsTask (tableAt row) i j = record { owner = k .owner; place = own } in (
+          omega (arith, split .period, period-lt kept (k .owner)),
+          (split .below, (rw (phase-at k t) (phase-of-below kept split c j), rw (weight-in t) (weight-lt kept (s .u) (s .a) (k .owner) mode j own))),
+        )
 
     -- the rest of a task by its cells, and of all tasks
     module _ {c : ℕ} (k : IsTask (tableAt row) i c) (whole : Bool) where
       abbrev restIn : ℕ → ℕ
       restIn j = restCell row whole x (phasesCell + tasksMost * (x .first + c)) (weightsCell + tasksInAll * m + x .first) j
 
+      -- the first task's cells are read without an offset
+      pub rest-first : restIn 0 ≡ restOf whole (x .periods) (x .period) (x .rest) (getD row (phasesCell + tasksMost * (x .first + c)) 0) (getD row (weightsCell + tasksInAll * m + x .first) 0)
+      rest-first = rw (add-zero (phasesCell + tasksMost * (x .first + c)), add-zero (weightsCell + tasksInAll * m + x .first))
+
       rest-in : {j : ℕ} → IsTask (tableAt row) i j → restIn j ≡ restAt whole x (tableAt row) (s .u) (s .a) i m c j
       unfolding restAt
-      rest-in {j} t =
-          let e : weightsCell + tasksInAll * m + x .first + j ≡ weightsCell + tasksInAll * m + (x .first + j) = omega arith in
-          rw (phase-at k t, ap (λ (n : ℕ). getD row n 0) e ∙ weight-at t)
+      rest-in {j} t = rw (phase-at k t, weight-in t)
 
-      pub rests-in : sum (tasks (tableAt row) i) restIn ≡ rests whole x (tableAt row) (s .u) (s .a) i m c
+      pub rests-in : (n : ℕ) → n ≡ x .count → sum n restIn ≡ rests whole x (tableAt row) (s .u) (s .a) i m c
       unfolding rests
-      rests-in = sum-ext (tasks (tableAt row) i) {f = restIn} (λ j l. rest-in (record { owner = k .owner; place = l }))
+      rests-in n e =
+          ap (λ (n : ℕ). sum n restIn) (e ∙ split .count) ∙ sum-ext (tasks (tableAt row) i) {f = restIn} (λ j l. rest-in (record { owner = k .owner; place = l }))
 
       rest-in-le : (j : ℕ) → j < tasks (tableAt row) i → restIn j ≤ 2 ^ 25
       unfolding restAt
@@ -127,8 +157,9 @@ module _ {row : List ℕ} (lent : Lent row) {i : ℕ} {x : Split} (split : IsSpl
             weight-lt (lent .holds .kept) (s .u) (s .a) (k .owner) mode j l,
           )
 
-      pub rests-room : (j : ℕ) → j < tasks (tableAt row) i → sum j restIn + restIn j ≤ tasksMost * 2 ^ 25
-      rests-room j l = omega (arith, sum-room {f = restIn} j rest-in-le l, tasks-few (lent .holds .kept) (k .owner))
+      pub rests-room : (j : ℕ) → j < x .count → sum j restIn + restIn j ≤ tasksMost * 2 ^ 25
+      rests-room j l =
+          omega (arith, sum-room {f = restIn} j rest-in-le (omega (arith, split .count)), tasks-few (lent .holds .kept) (k .owner))
 
     pub sum-at :
         {c : ℕ}
@@ -137,4 +168,4 @@ module _ {row : List ℕ} (lent : Lent row) {i : ℕ} {x : Split} (split : IsSpl
         + getD row (sumsCell + 2 * (modesMost * (x .first + c) + m) + 1) 0
         ≡ heldBack (tableAt row) (s .u) (s .a) i m c
     unfolding number
-    sum-at {c} t = rw (split .first) (subject .sum i m c t mode)
+    sum-at {c} t = rw (split .first) (subject .weighs .sum i m c t mode)

@@ -23,7 +23,7 @@ use Rattle.analysis.proofs.Charges.{kept-period}
 use Rattle.sumpcandle.specs.declared.charges.Split.{Split}
 use Rattle.sumpcandle.specs.Quantity.{laterOf}
 use Rattle.sumpcandle.specs.Split.{moment, IsSplit, wholePeriods, restOf, restAt, rests}
-use Rattle.sumpcandle.specs.Work.{weight, weights, heldBack}
+use Rattle.sumpcandle.specs.Weight.{weight, weights, heldBack}
 
 -- ---- the rest of one task, case by case
 
@@ -62,6 +62,23 @@ rest-le false (suc q) T r φ C =
     elim (decLe φ r) [
       | yes l ↦ omega (arith, imposed-passed (suc q) T r φ C (omega arith) l)
       | no l ↦ omega (arith, imposed-waiting (suc q) T r φ C (omega arith) (omega arith))
+    ]
+
+-- and no smaller for a greater weight
+pub rest-mono : (whole : Bool) (q T r φ : ℕ) {C D : ℕ} → C ≤ D → restOf whole q T r φ C ≤ restOf whole q T r φ D
+rest-mono true q T r φ {C} {D} h =
+    elim (decLt φ r) [
+      | yes l ↦ omega (arith, released-passed q T r φ C l, released-passed q T r φ D l)
+      | no l ↦ omega (arith, released-waiting q T r φ C (omega arith))
+    ]
+rest-mono false zero T r φ {C} {D} h = omega (arith, imposed-first T r φ C, imposed-first T r φ D)
+rest-mono false (suc q) T r φ {C} {D} h =
+    elim (decLe φ r) [
+      | yes l ↦
+          omega (arith, imposed-passed (suc q) T r φ C (omega arith) l, imposed-passed (suc q) T r φ D (omega arith) l)
+      | no l ↦
+          let k : r < φ = omega arith in
+          omega (arith, imposed-waiting (suc q) T r φ C (omega arith) k, imposed-waiting (suc q) T r φ D (omega arith) k)
     ]
 
 -- with the whole periods it is the charge of the later jobs

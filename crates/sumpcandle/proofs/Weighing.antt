@@ -2,7 +2,7 @@
 use mathlib.Core.Path.{_≡_, refl, sym, ap, ap₂, _∙_, subst}
 use mathlib.Core.List.{List}
 use Prim.Native.Nat.{ℕ, _+_, _*_, _/_, _%_, _^_, _≤_, _<_}
-use native.Mathlib.Nat.{le-trans, mul-le-mul, div-add-mod'}
+use native.Mathlib.Nat.{mul-le-mul, div-add-mod'}
 use native.Mathlib.Decide.{ℕ-discrete, decLt}
 use native.Mathlib.Omega.{arith}
 use lib.ListN.{length, getD, set, length-set}
@@ -18,7 +18,8 @@ use Rattle.analysis.specs.Rival.{Rival, Urgent, rival?}
 use Rattle.analysis.specs.Charge.{heldOf}
 use Rattle.analysis.proofs.Choice.{when-le}
 use Rattle.sumpcandle.specs.declared.charges.Subject.{Subject}
-use Rattle.sumpcandle.specs.Work.{heldCell, weightsCell, loadsCell, sumsCell, workCells, weight, weights, heldBack, tableAt, Chosen, IsSubject}
+use Rattle.sumpcandle.specs.Work.{heldCell, weightsCell, loadsCell, sumsCell, workCells, tableAt, Weighs}
+use Rattle.sumpcandle.specs.Weight.{weight, weights, heldBack}
 use Rattle.sumpcandle.specs.Parts.{SameTo, Phased, Weighed, Summed, withSums}
 use Rattle.sumpcandle.proofs.Flags.{tested-no, when-false}
 use Rattle.sumpcandle.proofs.Ranges.{sum-room, tasks-few, time-lt, held-of-lt}
@@ -336,7 +337,7 @@ module _ {tab : Table} (kept : Kept tab) (u a i c : ℕ) (old : List ℕ) where
             | no d ↦ x .done .sum y m z is mode (omega arith)
           ]
 
--- ---- a working row of the subject
+-- ---- a working row with the subject's weights
 
 -- the number of a transaction's first task
 first-number : (tab : Table) (i : ℕ) → IsTask tab i 0 → before tab i < inAll tab
@@ -347,16 +348,14 @@ pub weighed-subject :
     (row : List ℕ) (tab : Table) (s : Subject)
     → tableAt row ≡ tab
     → Kept (tableAt row)
-    → Chosen tab s
     → Weighed tab (s .u) (s .a) (inAll tab) row
     → Summed tab (s .u) (s .a) (inAll tab) row
-    → IsSubject row s
+    → Weighs row s
 unfolding tasks
-weighed-subject row tab s e kept chosen weighed summed =
+weighed-subject row tab s e kept weighed summed =
     let weighedAt = subst (λ (t : Table). Weighed t (s .u) (s .a) (inAll t) row) (sym e) weighed in
     let summedAt = subst (λ (t : Table). Summed t (s .u) (s .a) (inAll t) row) (sym e) summed in
     record {
-      chosen = subst (λ (t : Table). Chosen t s) (sym e) chosen;
       weight = λ i m j is mode. weighedAt .weight i m j is mode (number-lt (tableAt row) is);
       load = λ i m h mode.
           summedAt .load i m h mode (first-number (tableAt row) i (record { owner = h; place = kept .each i h .someTask }));

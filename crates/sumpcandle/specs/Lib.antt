@@ -3,6 +3,8 @@ pub mod Quantity
 pub mod Turn
 pub mod Told
 pub mod Answered
+pub mod Weight
+pub mod Links
 pub mod Work
 pub mod Parts
 pub mod Split

@@ -1,7 +1,7 @@
 -- A table's row, and the parts of a working row as they are filled: task by task, in the order of their numbers.
 use mathlib.Core.Path.{_≡_}
 use mathlib.Core.List.{List}
-use Prim.Native.Nat.{ℕ, _+_, _*_, _/_, _%_, _^_, _<_}
+use Prim.Native.Nat.{ℕ, _+_, _*_, _/_, _%_, _^_, _≤_, _<_}
 use lib.ListN.{length, getD, take, set}
 use Rattle.table.specs.Table.{Table, IsTask, transactions, modes}
 use Rattle.table.specs.Limits.{modesMost, tasksMost, tasksInAll}
@@ -10,7 +10,9 @@ use Rattle.table.specs.Kept.{Kept}
 use Rattle.image.specs.Row.{rowOf, tableOf}
 use Rattle.analysis.specs.Charge.{phaseOf, heldOf}
 use Rattle.sumpcandle.specs.declared.charges.Subject.{Subject}
-use Rattle.sumpcandle.specs.Work.{phasesCell, heldCell, weightsCell, loadsCell, sumsCell, weight, weights, heldBack, Chosen}
+use Rattle.sumpcandle.specs.Work.{phasesCell, heldCell, weightsCell, loadsCell, sumsCell, rowsCell, othersCell, Chosen}
+use Rattle.sumpcandle.specs.Links.{rowNumber, NextRow, NextOther}
+use Rattle.sumpcandle.specs.Weight.{weight, weights, heldBack}
 
 -- the row of a table that keeps the bounds on a table
 pub record RowOfTable (row : List ℕ) : Type 0 where
@@ -67,6 +69,19 @@ pub record Summed (tab : Table) (u a k : ℕ) (row : List ℕ) : Type 0 where
       → getD row (sumsCell + 2 * (modesMost * number tab i c + m)) 0 * 2 ^ 32
       + getD row (sumsCell + 2 * (modesMost * number tab i c + m) + 1) 0
       ≡ heldBack tab u a i m c
+
+-- the links of the rows of tasks with numbers from k on
+pub record LinkedFrom (tab : Table) (u a k : ℕ) (row : List ℕ) : Type 0 where
+  pub rows :
+      (i m c : ℕ)
+      → IsTask tab i c
+      → m ≤ modes tab i
+      → k ≤ number tab i c
+      → NextRow tab u a (rowNumber tab i m c) (getD row (rowsCell + rowNumber tab i m c) 0)
+
+-- the links of the transactions from i on
+pub record OthersFrom (tab : Table) (u a i : ℕ) (row : List ℕ) : Type 0 where
+  pub others : (j : ℕ) → i ≤ j → j ≤ transactions tab → NextOther tab u a j (getD row (othersCell + j) 0)
 
 -- the row with the load of transaction i in mode m, and the held-back sum of candidate number k
 unfoldable pub withSums : List ℕ → ℕ → ℕ → ℕ → ℕ → ℕ → List ℕ

@@ -10,7 +10,7 @@ use Rattle.table.specs.Number.{before}
 use Rattle.analysis.specs.Charge.{phaseOf}
 use Rattle.sumpcandle.specs.declared.charges.Split.{Split}
 use Rattle.sumpcandle.specs.Lent.{longest}
-use Rattle.sumpcandle.specs.Work.{weight}
+use Rattle.sumpcandle.specs.Weight.{weight}
 
 -- the t that is split
 unfoldable pub moment : Split → ℕ

@@ -1,24 +1,23 @@
 -- The working row: a table's row, and behind it what its tasks' phases, held-back jobs and weights are, so that an
--- evaluation works none of them out. Phases and held-back jobs are the table's; weights, loads and held-back sums are those
--- of one task under analysis.
+-- evaluation works none of them out. Phases and held-back jobs are the table's; weights, loads, held-back sums and the links
+-- over what is to be charged are those of one task under analysis.
 use mathlib.Core.Path.{_≡_}
 use mathlib.Core.List.{List}
-use Prim.Native.Nat.{ℕ, _+_, _*_, _^_, _<_}
+use Prim.Native.Nat.{ℕ, _+_, _*_, _^_, _≤_, _<_}
 use lib.ListN.{length, getD, take}
-use Rattle.table.specs.Sum.{sum}
-use Rattle.table.specs.Table.{Table, IsTask, transactions, modes, tasks, priority, time}
+use Rattle.table.specs.Table.{Table, IsTask, transactions, modes, priority}
 use Rattle.table.specs.Limits.{transactionsMost, modesMost, tasksMost, tasksInAll}
 use Rattle.table.specs.Number.{number}
 use Rattle.table.specs.Kept.{Kept}
 use Rattle.image.specs.Row.{rowCells, rowOf, tableOf}
-use Rattle.analysis.specs.Choice.{when}
-use Rattle.analysis.specs.Rival.{rival?}
 use Rattle.analysis.specs.Charge.{phaseOf, heldOf}
 use Rattle.sumpcandle.specs.declared.charges.Subject.{Subject}
+use Rattle.sumpcandle.specs.Weight.{weight, weights, heldBack}
+use Rattle.sumpcandle.specs.Links.{rowNumber, NextRow, NextOther}
 
 -- where the parts begin: after the table's row a phase and a held-back count for each task as candidate and each place in
--- its transaction; a weight for each mode and task; a load for each transaction and mode; and for each task as candidate
--- and each mode a held-back sum, in two cells
+-- its transaction; a weight for each mode and task; a load for each transaction and mode; for each task as candidate and
+-- each mode a held-back sum, in two cells, and the next row to be charged; and for each transaction the next other one
 
 abbrev pub phasesCell : ℕ
 phasesCell = rowCells
@@ -35,20 +34,14 @@ loadsCell = weightsCell + modesMost * tasksInAll
 abbrev pub sumsCell : ℕ
 sumsCell = loadsCell + transactionsMost * modesMost
 
+abbrev pub rowsCell : ℕ
+rowsCell = sumsCell + 2 * (tasksInAll * modesMost)
+
+abbrev pub othersCell : ℕ
+othersCell = rowsCell + (tasksInAll * modesMost + 1)
+
 abbrev pub workCells : ℕ
-workCells = sumsCell + 2 * (tasksInAll * modesMost)
-
--- the time of task j where it is a rival in mode m, else 0
-unfoldable pub weight : Table → ℕ → ℕ → ℕ → ℕ → ℕ → ℕ
-weight tab u a i m j = when (rival? tab u a i m j) (time tab i m j)
-
--- the weights of transaction i in mode m
-unfoldable pub weights : Table → ℕ → ℕ → ℕ → ℕ → ℕ
-weights tab u a i m = sum (tasks tab i) (weight tab u a i m)
-
--- what the jobs held back to candidate c's instant weigh
-unfoldable pub heldBack : Table → ℕ → ℕ → ℕ → ℕ → ℕ → ℕ
-heldBack tab u a i m c = sum (tasks tab i) (λ j. heldOf tab i c j * weight tab u a i m j)
+workCells = othersCell + (transactionsMost + 1)
 
 -- the table in a working row
 unfoldable pub tableAt : List ℕ → Table
@@ -79,9 +72,8 @@ pub record Chosen (tab : Table) (s : Subject) : Type 0 where
   pub isTask : IsTask tab (s .u) (s .a)
   pub priority : s .priority ≡ priority tab (s .u) (s .a)
 
--- and the weights in the row are those of its rivals
-pub record IsSubject (row : List ℕ) (s : Subject) : Type 0 where
-  pub chosen : Chosen (tableAt row) s
+-- the weights in the row are those of the subject's rivals
+pub record Weighs (row : List ℕ) (s : Subject) : Type 0 where
   pub weight :
       (i m j : ℕ)
       → IsTask (tableAt row) i j
@@ -99,3 +91,14 @@ pub record IsSubject (row : List ℕ) (s : Subject) : Type 0 where
       → getD row (sumsCell + 2 * (modesMost * number (tableAt row) i c + m)) 0 * 2 ^ 32
       + getD row (sumsCell + 2 * (modesMost * number (tableAt row) i c + m) + 1) 0
       ≡ heldBack (tableAt row) (s .u) (s .a) i m c
+
+-- the working row is the subject's: its weights, and the links over what its rivals charge
+pub record IsSubject (row : List ℕ) (s : Subject) : Type 0 where
+  pub chosen : Chosen (tableAt row) s
+  pub weighs : Weighs row s
+  pub rows :
+      (i m c : ℕ)
+      → IsTask (tableAt row) i c
+      → m ≤ modes (tableAt row) i
+      → NextRow (tableAt row) (s .u) (s .a) (rowNumber (tableAt row) i m c) (getD row (rowsCell + rowNumber (tableAt row) i m c) 0)
+  pub others : (i : ℕ) → i ≤ transactions (tableAt row) → NextOther (tableAt row) (s .u) (s .a) i (getD row (othersCell + i) 0)

@@ -1,6 +1,7 @@
 // A task's answer and its three cells.
 use super::charges::Subject;
 use super::layout::Work;
+use super::links;
 use super::overload;
 use super::walk::Walk;
 use super::walk::Walked;
@@ -117,5 +118,6 @@ pub(crate) fn task_cells(
 {
     let s = work::task(table, k);
     work::weigh(table, row, s);
+    links::link(row, s);
     answer(&*row, s, budget).cells(Table::deadline(table, s.u, s.a))
 }

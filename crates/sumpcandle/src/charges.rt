@@ -8,17 +8,16 @@ use image::Table;
 use image::Transaction;
 ghost use mathlib.Core.Path.{_≡_};
 ghost use Prim.Native.Nat.{_+_, _*_, _<_, _≤_, _^_, _-_, min, max};
-ghost use native.Mathlib.Decide.{ℕ-discrete};
 ghost use Rattle.table.specs.Limits.{tasksMost, tasksInAll};
 ghost use Rattle.table.specs.Number.{number};
-ghost use Rattle.table.specs.Table.{IsTask, transactions, modes, tasks};
-ghost use Rattle.analysis.specs.Choice.{when, unless, most};
+ghost use Rattle.table.specs.Table.{IsTask, transactions, modes};
 ghost use Rattle.analysis.specs.Rival.{rival?};
 ghost use Rattle.analysis.specs.Charge.{phaseOf, heldOf, charge, greatest, rivals};
 ghost use Rattle.sumpcandle.specs.Lent.{tested, longest};
 ghost use Rattle.sumpcandle.specs.Quantity.{laterOf};
 ghost use Rattle.sumpcandle.specs.Split.{moment, IsSplit, IsSplitAt, wholePeriods, restOf, rests};
-ghost use Rattle.sumpcandle.specs.Work.{Holds, Lent, Chosen, IsSubject, tableAt, weight, weights, heldBack};
+ghost use Rattle.sumpcandle.specs.Work.{Holds, Lent, Chosen, Weighs, IsSubject, tableAt};
+ghost use Rattle.sumpcandle.specs.Weight.{weight, weights, heldBack};
 
 // The task under analysis: task a of transaction u, with its priority.
 pub(crate) struct Subject {
@@ -176,6 +175,37 @@ fn rests(
     sum
 }
 
+// The same for at most three tasks, without a loop.
+fn few_rests(
+    row: &[u32; Work::CELLS],
+    s: Subject,
+    whole: bool,
+    i: usize,
+    m: usize,
+    c: usize,
+    x: Split,
+) -> u32
+    requires { ⌜ Lent (now row) ⌝ }
+    requires { ⌜ IsSubject (now row) s ⌝ }
+    requires { ⌜ IsTask (tableAt (now row)) i c ⌝ }
+    requires { ⌜ m < modes (tableAt (now row)) i ⌝ }
+    requires { ⌜ IsSplit (tableAt (now row)) i x ⌝ }
+    requires { ⌜ x .count < 4 ⌝ }
+    ensures { λ r. ⌜ r ≡ rests whole x (tableAt (now (row .entry))) (s .u) (s .a) i m c ⌝ }
+{
+    let phases = Work::PHASES + Transaction::TASKS * (x.first + c);
+    let weights = Work::WEIGHTS + Table::TASKS * m + x.first;
+    let one = rest_of(x, whole, row[phases], row[weights]);
+    if x.count == 1 {
+        return one;
+    }
+    let two = one + rest_of(x, whole, row[phases + 1], row[weights + 1]);
+    if x.count == 2 {
+        return two;
+    }
+    two + rest_of(x, whole, row[phases + 2], row[weights + 2])
+}
+
 // What the jobs held back to candidate c's instant weigh.
 fn held_back(row: &[u32; Work::CELLS], s: Subject, i: usize, m: usize, c: usize, x: Split) -> u64
     requires { ⌜ Lent (now row) ⌝ }
@@ -190,9 +220,9 @@ fn held_back(row: &[u32; Work::CELLS], s: Subject, i: usize, m: usize, c: usize,
 }
 
 // The weights of transaction i in mode m.
-fn load(row: &[u32; Work::CELLS], s: Subject, i: usize, m: usize) -> u64
+pub(crate) fn load(row: &[u32; Work::CELLS], s: Subject, i: usize, m: usize) -> u64
     requires { ⌜ Lent (now row) ⌝ }
-    requires { ⌜ IsSubject (now row) s ⌝ }
+    requires { ⌜ Weighs (now row) s ⌝ }
     requires { ⌜ i < transactions (tableAt (now row)) ⌝ }
     requires { ⌜ m < modes (tableAt (now row)) i ⌝ }
     ensures { λ r. ⌜ r ≡ weights (tableAt (now (row .entry))) (s .u) (s .a) i m ⌝ }
@@ -231,16 +261,27 @@ fn charge(
     Ticks(held_back(row, s, i, m, c, x) + passed + rest)
 }
 
-// The weight of task c in mode m.
-fn weight(row: &[u32; Work::CELLS], s: Subject, i: usize, m: usize, c: usize, x: Split) -> u32
+// The same for a transaction of at most three tasks.
+fn few_charge(
+    row: &[u32; Work::CELLS],
+    s: Subject,
+    whole: bool,
+    i: usize,
+    m: usize,
+    c: usize,
+    x: Split,
+) -> Ticks
     requires { ⌜ Lent (now row) ⌝ }
     requires { ⌜ IsSubject (now row) s ⌝ }
     requires { ⌜ IsTask (tableAt (now row)) i c ⌝ }
     requires { ⌜ m < modes (tableAt (now row)) i ⌝ }
     requires { ⌜ IsSplit (tableAt (now row)) i x ⌝ }
-    ensures { λ r. ⌜ r ≡ weight (tableAt (now (row .entry))) (s .u) (s .a) i m c ⌝ }
+    requires { ⌜ x .count < 4 ⌝ }
+    ensures { λ r. ⌜ r .0 ≡ charge (laterOf whole) (tableAt (now (row .entry))) (s .u) (s .a) i m c (moment x) ⌝ }
 {
-    row[Work::WEIGHTS + Table::TASKS * m + (x.first + c)]
+    let passed = whole_periods(whole, x.periods) * load(row, s, i, m);
+    let rest = row::wide(few_rests(row, s, whole, i, m, c, x));
+    Ticks(held_back(row, s, i, m, c, x) + passed + rest)
 }
 
 // The most that a transaction can charge for (c, mode): a period more than the whole ones.
@@ -255,15 +296,16 @@ fn ceiling(row: &[u32; Work::CELLS], s: Subject, i: usize, m: usize, c: usize, x
     held_back(row, s, i, m, c, x) + (x.periods + 1) * load(row, s, i, m)
 }
 
-// The greater of `best` and what c charges as candidate, if it is one. What cannot be greater is passed over.
-fn candidate_charge(
+// The greater of `best` and what a row charges: candidate c in mode m. What cannot be greater is passed over, except where
+// there is so little to add up that the test costs more.
+fn row_charge(
     row: &[u32; Work::CELLS],
     s: Subject,
     whole: bool,
     i: usize,
     m: usize,
-    x: Split,
     c: usize,
+    x: Split,
     best: u64,
 ) -> u64
     requires { ⌜ Lent (now row) ⌝ }
@@ -271,11 +313,10 @@ fn candidate_charge(
     requires { ⌜ IsTask (tableAt (now row)) i c ⌝ }
     requires { ⌜ m < modes (tableAt (now row)) i ⌝ }
     requires { ⌜ IsSplit (tableAt (now row)) i x ⌝ }
-    ensures { λ r. ⌜ r ≡ max best (when (rival? (tableAt (now (row .entry))) (s .u) (s .a) i m c) (charge (laterOf whole) (tableAt (now (row .entry))) (s .u) (s .a) i m c (moment x))) ⌝ }
+    ensures { λ r. ⌜ r ≡ max best (charge (laterOf whole) (tableAt (now (row .entry))) (s .u) (s .a) i m c (moment x)) ⌝ }
 {
-    let weighs = weight(row, s, i, m, c, x);
-    if weighs == 0 {
-        return best;
+    if x.count < 4 {
+        return greater(best, few_charge(row, s, whole, i, m, c, x).0);
     }
     let most = ceiling(row, s, i, m, c, x);
     if most <= best {
@@ -284,50 +325,7 @@ fn candidate_charge(
     greater(best, charge(row, s, whole, i, m, c, x).0)
 }
 
-// The greater of `best` and the greatest charge of a transaction in one mode, over its candidates.
-fn mode_charge(
-    row: &[u32; Work::CELLS],
-    s: Subject,
-    whole: bool,
-    i: usize,
-    x: Split,
-    m: usize,
-    best: u64,
-) -> u64
-    requires { ⌜ Lent (now row) ⌝ }
-    requires { ⌜ IsSubject (now row) s ⌝ }
-    requires { ⌜ m < modes (tableAt (now row)) i ⌝ }
-    requires { ⌜ IsSplit (tableAt (now row)) i x ⌝ }
-    ensures { λ r. ⌜ r ≡ max best (most (tasks (tableAt (now (row .entry))) i) (λ c. when (rival? (tableAt (now (row .entry))) (s .u) (s .a) i m c) (charge (laterOf whole) (tableAt (now (row .entry))) (s .u) (s .a) i m c (moment x)))) ⌝ }
-{
-    let count = x.count;
-    let mut high = best;
-    let mut c: usize = 0;
-    while c < count {
-        high = candidate_charge(row, s, whole, i, m, x, c, high);
-        c += 1;
-    }
-    high
-}
-
-// The greatest weights of transaction i over its modes: 0 where it has no rival.
-fn most_weights(row: &[u32; Work::CELLS], s: Subject, i: usize) -> u64
-    requires { ⌜ Lent (now row) ⌝ }
-    requires { ⌜ IsSubject (now row) s ⌝ }
-    requires { ⌜ i < transactions (tableAt (now row)) ⌝ }
-    ensures { λ r. ⌜ r ≡ most (modes (tableAt (now (row .entry))) i) (weights (tableAt (now (row .entry))) (s .u) (s .a) i) ⌝ }
-{
-    let count = row::modes(row, i);
-    let mut best: u64 = 0;
-    let mut m: usize = 0;
-    while m < count {
-        best = greater(best, load(row, s, i, m));
-        m += 1;
-    }
-    best
-}
-
-// The greatest charge of another transaction, over its modes and candidates.
+// The greatest charge of another transaction, over its modes and candidates: over the rows that are charged.
 fn greatest(row: &[u32; Work::CELLS], s: Subject, whole: bool, i: usize, t: Ticks) -> Ticks
     requires { ⌜ Lent (now row) ⌝ }
     requires { ⌜ IsSubject (now row) s ⌝ }
@@ -336,31 +334,16 @@ fn greatest(row: &[u32; Work::CELLS], s: Subject, whole: bool, i: usize, t: Tick
     ensures { λ r. ⌜ r .0 ≡ greatest (laterOf whole) (tableAt (now (row .entry))) (s .u) (s .a) i (t .0) ⌝ }
 {
     let x = split_of(row, i, t);
-    let count = row::modes(row, i);
+    let end = Transaction::MODES * (x.first + x.count);
     let mut best: u64 = 0;
-    let mut m: usize = 0;
-    while m < count {
-        best = mode_charge(row, s, whole, i, x, m, best);
-        m += 1;
+    let mut z = row::index(row[Work::ROWS + Transaction::MODES * x.first]);
+    while z < end {
+        let m = z % Transaction::MODES;
+        let c = z / Transaction::MODES - x.first;
+        best = row_charge(row, s, whole, i, m, c, x, best);
+        z = row::index(row[Work::ROWS + (z + 1)]);
     }
     Ticks(best)
-}
-
-fn other_charge(row: &[u32; Work::CELLS], s: Subject, whole: bool, t: Ticks, i: usize) -> Ticks
-    requires { ⌜ Lent (now row) ⌝ }
-    requires { ⌜ IsSubject (now row) s ⌝ }
-    requires { ⌜ i < transactions (tableAt (now row)) ⌝ }
-    requires { ⌜ t .0 ≤ longest ⌝ }
-    ensures { λ r. ⌜ r .0 ≡ unless (ℕ-discrete i (s .u)) (greatest (laterOf whole) (tableAt (now (row .entry))) (s .u) (s .a) i (t .0)) ⌝ }
-{
-    if i == s.u {
-        return Ticks(0);
-    }
-    let heaviest = most_weights(row, s, i);
-    if heaviest == 0 {
-        return Ticks(0);
-    }
-    greatest(row, s, whole, i, t)
 }
 
 // The rivals' charges: in u for the given mode and candidate, elsewhere the greatest.
@@ -381,10 +364,10 @@ pub(crate) fn rivals(
 {
     let count = row::transactions(row);
     let mut sum: u64 = 0;
-    let mut i: usize = 0;
+    let mut i = row::index(row[Work::OTHERS]);
     while i < count {
-        sum += other_charge(row, s, whole, t, i).0;
-        i += 1;
+        sum += greatest(row, s, whole, i, t).0;
+        i = row::index(row[Work::OTHERS + (i + 1)]);
     }
     let own = split_of(row, s.u, t);
     Ticks(charge(row, s, whole, s.u, m, c, own).0 + sum)

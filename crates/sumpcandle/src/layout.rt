@@ -18,5 +18,11 @@ impl Work {
 
     pub(crate) const SUMS: usize = Work::LOADS + Table::TRANSACTIONS * Transaction::MODES;
 
-    pub(crate) const CELLS: usize = Work::SUMS + 2 * (Table::TASKS * Transaction::MODES);
+    // Links: from each row, a task as candidate in a mode, to the next that is charged, and from each transaction to the
+    // next other one with a rival. One cell behind the last is the end.
+    pub(crate) const ROWS: usize = Work::SUMS + 2 * (Table::TASKS * Transaction::MODES);
+
+    pub(crate) const OTHERS: usize = Work::ROWS + (Table::TASKS * Transaction::MODES + 1);
+
+    pub(crate) const CELLS: usize = Work::OTHERS + (Table::TRANSACTIONS + 1);
 }

@@ -18,6 +18,7 @@ mod answers;
 mod chains;
 mod charges;
 mod layout;
+mod links;
 mod overload;
 mod quantity;
 mod row;

@@ -15,7 +15,8 @@ ghost use Rattle.table.specs.Number.{inAll};
 ghost use Rattle.image.specs.Row.{rowCells, tableOf};
 ghost use Rattle.periods.specs.Phase.{phase};
 ghost use Rattle.analysis.specs.Charge.{phaseOf, heldOf};
-ghost use Rattle.sumpcandle.specs.Work.{workCells, weightsCell, loadsCell, weight, weights, heldBack, Lent, Chosen, IsSubject, tableAt};
+ghost use Rattle.sumpcandle.specs.Work.{workCells, weightsCell, loadsCell, Lent, Chosen, Weighs, tableAt};
+ghost use Rattle.sumpcandle.specs.Weight.{weight, weights, heldBack};
 ghost use Rattle.sumpcandle.specs.Parts.{RowOfTable, SameTo, IsSubjectAt, Phased, Weighed, Summed, withSums};
 
 // (offset − instant) mod period
@@ -281,7 +282,7 @@ pub(crate) fn weigh(table: &[u32; Table::CELLS], work: &mut [u32; Work::CELLS], 
     requires { ⌜ Chosen (tableOf (now table)) s ⌝ }
     ensures { λ _. ⌜ Lent (now (work .exit)) ⌝ }
     ensures { λ _. ⌜ tableAt (now (work .exit)) ≡ tableOf (now (table .entry)) ⌝ }
-    ensures { λ _. ⌜ IsSubject (now (work .exit)) s ⌝ }
+    ensures { λ _. ⌜ Weighs (now (work .exit)) s ⌝ }
 {
     all_weights(table, work, s);
     all_sums(table, work, s);

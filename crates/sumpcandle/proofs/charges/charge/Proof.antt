@@ -2,8 +2,9 @@
 use borrow.Author.Needs.{needs}
 use mathlib.Core.Path.{sym}
 use native.Mathlib.Omega.{arith}
-use Rattle.sumpcandle.proofs.Split.{charge-split, charge-ceiling}
-use Rattle.sumpcandle.proofs.Readings.{whole-le, passed-le, held-back-le}
+use Rattle.sumpcandle.proofs.Ranges.{charge-le}
+use Rattle.sumpcandle.proofs.Split.{charge-split}
+use Rattle.sumpcandle.proofs.Readings.{whole-le}
 use Rattle.sumpcandle.proofs.charges.charge.Statement.{statement}
 use Rattle.sumpcandle.proofs.charges.charge.Tie as tie
 
@@ -41,31 +42,13 @@ add-t11 : tie.Need-add-t11
 add-t11 c =
     let s = c .before .before .before .before .before in
     let (lent, (subject, (isTask, (mode, split)))) = s .pre in
-    let kept = lent .holds .kept in
-    let u = s .args .s .u in
-    let a = s .args .s .a in
-    omega (
-      arith,
-      returns c,
-      charge-ceiling kept (s .args .whole) split u a (s .args .m) (s .args .c),
-      held-back-le kept u a (isTask .owner) mode (s .args .c),
-      passed-le kept split mode u a,
-    )
+    omega (arith, returns c, charge-le (lent .holds .kept) (s .args .whole) (split .within) (s .args .s .u) (s .args .s .a) (isTask .owner) mode (s .args .c))
 
 add-t13 : tie.Need-add-t13
 add-t13 c =
     let s = c .before .before .before .before .before in
     let (lent, (subject, (isTask, (mode, split)))) = s .pre in
-    let kept = lent .holds .kept in
-    let u = s .args .s .u in
-    let a = s .args .s .a in
-    omega (
-      arith,
-      returns c,
-      charge-ceiling kept (s .args .whole) split u a (s .args .m) (s .args .c),
-      held-back-le kept u a (isTask .owner) mode (s .args .c),
-      passed-le kept split mode u a,
-    )
+    omega (arith, returns c, charge-le (lent .holds .kept) (s .args .whole) (split .within) (s .args .s .u) (s .args .s .a) (isTask .owner) mode (s .args .c))
 
 pub charge-spec : {M : Type 1} → statement M
 charge-spec =

@@ -1,19 +1,14 @@
 -- The held-back sum of candidate c in mode m stands in two cells. Assumes nothing.
 use borrow.Author.Needs.{needs}
-use Prim.Native.Nat.{_+_, _<_}
 use native.Mathlib.Omega.{arith}
-use Rattle.table.specs.Limits.{modesMost, tasksInAll}
-use Rattle.sumpcandle.proofs.Ranges.{modes-few}
-use Rattle.sumpcandle.proofs.Readings.{place-lt, sum-at, held-back-le}
+use Rattle.sumpcandle.proofs.Readings.{InRow, in-row, sum-at, held-back-le}
 use Rattle.sumpcandle.proofs.charges.held_back.Statement.{statement}
 use Rattle.sumpcandle.proofs.charges.held_back.Tie as tie
 
--- the places read lie within the row
-few : (s : tie.Start) → (s .args .x .first + s .args .c < tasksInAll) × (s .args .m < modesMost)
+few : (s : tie.Start) → InRow (s .args .x) (s .args .m) (s .args .c)
 few s =
     let (lent, (subject, (isTask, (mode, split)))) = s .pre in
-    let modes = modes-few (lent .holds .kept) (isTask .owner) in
-    (place-lt lent split isTask, omega arith)
+    in-row lent split isTask mode
 
 add-at : tie.Need-add-at
 add-at c = omega (arith, few (c .before))

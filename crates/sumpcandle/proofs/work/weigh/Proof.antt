@@ -1,9 +1,8 @@
 -- `weigh` meets its contract: what is stored lies behind the phases and the held-back jobs, so that these stay.
-use mathlib.Core.Path.{_≡_, ap, sym, _∙_}
+use mathlib.Core.Path.{_∙_}
 use native.Mathlib.Omega.{arith}
 use denote.Ref.{now}
-use borrow.Author.Needs.{needs}
-use Rattle.image.specs.Row.{rowCells, tableOf}
+use Rattle.image.specs.Row.{tableOf}
 use Rattle.sumpcandle.specs.Work.{weightsCell}
 use Rattle.sumpcandle.specs.Parts.{SameTo}
 use Rattle.sumpcandle.proofs.Filling.{same-less, same-trans, phased-same, lent-phased, lent-same}
@@ -44,7 +43,7 @@ returns c =
       lent,
       (
         e,
-        weighed-subject row tab (x .args .s) e (lent .holds .kept) (x .pre .1 .1 .1)
+        weighed-subject row tab (x .args .s) e (lent .holds .kept)
             (weighed-same (x .pre .0 .kept) (x .args .s .u) (x .args .s .a) last (y .all-weights .ensures .0))
             (c .all-sums .ensures .0),
       ),

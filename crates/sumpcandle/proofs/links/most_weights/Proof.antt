@@ -5,10 +5,11 @@ use Prim.Native.Nat.{ℕ, _-_, _≤_}
 use native.Mathlib.Omega.{arith}
 use Rattle.table.specs.Table.{modes}
 use Rattle.analysis.specs.Choice.{most}
-use Rattle.sumpcandle.specs.Work.{tableAt, weights}
+use Rattle.sumpcandle.specs.Work.{tableAt}
+use Rattle.sumpcandle.specs.Weight.{weights}
 use Rattle.sumpcandle.proofs.Ranges.{most-next}
-use Rattle.sumpcandle.proofs.charges.most_weights.Statement.{statement}
-use Rattle.sumpcandle.proofs.charges.most_weights.Tie as tie
+use Rattle.sumpcandle.proofs.links.most_weights.Statement.{statement}
+use Rattle.sumpcandle.proofs.links.most_weights.Tie as tie
 
 abbrev Inv-loop : tie.InvT-loop
 Inv-loop row s i count best₀ m₀ best m = (m ≤ count) × (best ≡ most m (weights (tableAt row) (s .u) (s .a) i))
