@@ -1,5 +1,5 @@
 -- Filling a working row: one store, a task by its number, and the part that is filled once for a table.
-use mathlib.Core.Path.{_≡_, refl, sym, ap, ap₂, _∙_, subst, subst₂}
+use mathlib.Core.Path.{_≡_, refl, sym, ap, ap₂, _∙_, subst}
 use mathlib.Core.List.{List}
 use Prim.Native.Nat.{ℕ, _+_, _-_, _*_, _≤_, _<_}
 use native.Mathlib.Nat.{le-of-eq}
@@ -18,7 +18,7 @@ use Rattle.image.proofs.Held.{head-there}
 use Rattle.image.proofs.Rows.{row-size}
 use Rattle.image.proofs.Decoded.{row-decoded}
 use Rattle.analysis.specs.Charge.{phaseOf, heldOf}
-use Rattle.sumpcandle.specs.Work.{phasesCell, heldCell, weightsCell, workCells, tableAt, Holds, Lent}
+use Rattle.sumpcandle.specs.Work.{phasesCell, heldCell, weightsCell, workCells, tableAt, Lent}
 use Rattle.sumpcandle.specs.Parts.{RowOfTable, SameTo, Phased}
 use Rattle.sumpcandle.proofs.Ranges.{tasks-few}
 

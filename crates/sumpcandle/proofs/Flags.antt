@@ -27,6 +27,18 @@ unfolding tested when
 when-false (yes a) x e = absurd (never (sym e))
 when-false (no f) x e = refl
 
+-- what is chosen or not tells the flag
+
+pub chosen-flag : {A : Type 0} (d : Dec A) → when d 1 ≡ 1 → tested d ≡ true
+unfolding tested when
+chosen-flag (yes a) e = refl
+chosen-flag (no f) e = absurd (omega arith)
+
+pub spared-flag : {A : Type 0} (d : Dec A) → when d 1 ≡ 0 → tested d ≡ false
+unfolding tested when
+spared-flag (yes a) e = absurd (omega arith)
+spared-flag (no f) e = refl
+
 pub unless-yes : {A : Type 0} (d : Dec A) (x : ℕ) → A → unless d x ≡ 0
 unfolding unless
 unless-yes (yes a) x h = refl

@@ -11,12 +11,11 @@ ghost use Prim.Native.Nat.{_+_, _*_, _<_, _≤_, _^_, _-_, min, max};
 ghost use Rattle.table.specs.Limits.{tasksMost, tasksInAll};
 ghost use Rattle.table.specs.Number.{number};
 ghost use Rattle.table.specs.Table.{IsTask, transactions, modes};
-ghost use Rattle.analysis.specs.Rival.{rival?};
 ghost use Rattle.analysis.specs.Charge.{phaseOf, heldOf, charge, greatest, rivals};
-ghost use Rattle.sumpcandle.specs.Lent.{tested, longest};
+ghost use Rattle.sumpcandle.specs.Lent.{longest};
 ghost use Rattle.sumpcandle.specs.Quantity.{laterOf};
 ghost use Rattle.sumpcandle.specs.Split.{moment, IsSplit, IsSplitAt, wholePeriods, restOf, rests};
-ghost use Rattle.sumpcandle.specs.Work.{Holds, Lent, Chosen, Weighs, IsSubject, tableAt};
+ghost use Rattle.sumpcandle.specs.Work.{Holds, Lent, Weighs, IsSubject, tableAt};
 ghost use Rattle.sumpcandle.specs.Weight.{weight, weights, heldBack};
 
 // The task under analysis: task a of transaction u, with its priority.
@@ -55,28 +54,6 @@ pub(crate) fn held_of(row: &[u32; Work::CELLS], i: usize, c: usize, j: usize) ->
     ensures { λ r. ⌜ r ≡ heldOf (tableAt (now (row .entry))) i c j ⌝ }
 {
     row::wide(row[Work::HELD + place(row, i, c, j)])
-}
-
-// Whether task j of transaction i is a rival in mode m.
-pub(crate) fn is_rival(row: &[u32; Work::CELLS], s: Subject, i: usize, m: usize, j: usize) -> bool
-    requires { ⌜ Holds (now row) ⌝ }
-    requires { ⌜ Chosen (tableAt (now row)) s ⌝ }
-    requires { ⌜ IsTask (tableAt (now row)) i j ⌝ }
-    requires { ⌜ m < modes (tableAt (now row)) i ⌝ }
-    ensures { λ r. ⌜ r ≡ tested (rival? (tableAt (now (row .entry))) (s .u) (s .a) i m j) ⌝ }
-{
-    if row::priority(row, i, j) < s.priority {
-        return false;
-    }
-    if row::time(row, i, m, j) == 0 {
-        return false;
-    }
-    if i == s.u {
-        if j == s.a {
-            return false;
-        }
-    }
-    true
 }
 
 pub(crate) fn greater(x: u64, y: u64) -> u64

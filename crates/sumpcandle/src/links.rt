@@ -20,8 +20,8 @@ ghost use Rattle.sumpcandle.specs.Parts.{SameTo, LinkedFrom, OthersFrom}
 ghost use Rattle.sumpcandle.specs.Weight.{weight, weights};
 ghost use Rattle.sumpcandle.specs.Work.{rowsCell, othersCell, Lent, Chosen, Weighs, IsSubject, tableAt};
 
-// The weight of task j of transaction i in mode m.
-fn weight(row: &[u32; Work::CELLS], s: Subject, i: usize, m: usize, j: usize) -> u32
+// The weight of task j of transaction i in mode m: 0 where it is no rival.
+pub(crate) fn weight(row: &[u32; Work::CELLS], s: Subject, i: usize, m: usize, j: usize) -> u32
     requires { ⌜ Lent (now row) ⌝ }
     requires { ⌜ Weighs (now row) s ⌝ }
     requires { ⌜ IsTask (tableAt (now row)) i j ⌝ }

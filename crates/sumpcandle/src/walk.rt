@@ -3,10 +3,10 @@
 use super::chains;
 use super::chains::Stop;
 use super::chains::Turn;
-use super::charges;
 use super::charges::Subject;
 use super::charges::greater;
 use super::layout::Work;
+use super::links;
 use super::quantity::JobNumber;
 use super::quantity::Moment;
 use super::quantity::Ticks;
@@ -86,7 +86,10 @@ fn is_candidate(row: &[u32; Work::CELLS], s: Subject, m: usize, c: usize) -> boo
     if c == s.a {
         return true;
     }
-    charges::is_rival(row, s, s.u, m, c)
+    if links::weight(row, s, s.u, m, c) == 0 {
+        return false;
+    }
+    true
 }
 
 impl Walk {

@@ -1,7 +1,6 @@
 -- `task` takes a number apart: the transaction of the task is in the row, and its place there is what the number has beyond the
 -- tasks of the transactions before.
 use mathlib.Core.Path.{_∙_}
-use denote.Ref.{now}
 use borrow.Author.Needs.{needs}
 use Rattle.sumpcandle.proofs.Filling.{found}
 use Rattle.sumpcandle.proofs.work.task.Statement.{statement}
