@@ -69,7 +69,7 @@ module _ {row : List ℕ} (x : RowOfTable row) where
   pub count-is : getD row inAllCell 0 ≡ inAll (tableOf row)
   count-is = decoded .inAll
 
-  pub first-is : {u : ℕ} → u < transactions (tableOf row) → headCell row u firstCell ≡ before (tableOf row) u
+  first-is : {u : ℕ} → u < transactions (tableOf row) → headCell row u firstCell ≡ before (tableOf row) u
   first-is {u} h = head-there row u firstCell h ∙ decoded .first u h
 
   -- the transaction of task number k, and its place there
@@ -190,7 +190,7 @@ phased-none tab row =
     record { phases = λ i c j is are l. absurd (omega arith); held = λ i c j is are l. absurd (omega arith) }
 
 -- stores from the weights on leave phases and held-back jobs
-pub phased-same :
+phased-same :
     {tab : Table} (kept : Kept tab) {old row : List ℕ}
     → SameTo weightsCell old row
     → Phased tab (inAll tab) old
@@ -237,7 +237,7 @@ module _ {table : List ℕ} (x : RowOfTable table) (row : List ℕ) where
       }
 
 -- and back
-pub lent-phased : {row : List ℕ} → Lent row → (tab : Table) → tableAt row ≡ tab → Phased tab (inAll tab) row
+lent-phased : {row : List ℕ} → Lent row → (tab : Table) → tableAt row ≡ tab → Phased tab (inAll tab) row
 lent-phased {row} lent tab e =
     subst (λ (t : Table). Phased t (inAll t) row) e
     (record { phases = λ i c j is are l. lent .phases i c j is are; held = λ i c j is are l. lent .held i c j is are })

@@ -1,8 +1,8 @@
 -- Filling the links of a working row: over the rows that are charged, and over the other transactions with a rival. Both go
 -- from the last to the first.
-use mathlib.Core.Path.{_≡_, refl, sym, ap, ap₂, _∙_, subst}
+use mathlib.Core.Path.{_≡_, refl, sym, ap, _∙_, subst}
 use mathlib.Core.List.{List}
-use Prim.Native.Nat.{ℕ, _+_, _*_, _^_, _≤_, _<_}
+use Prim.Native.Nat.{ℕ, _+_, _*_, _≤_, _<_}
 use native.Mathlib.Decide.{ℕ-discrete}
 use native.Mathlib.Omega.{arith}
 use lib.ListN.{length, getD, set}
@@ -16,8 +16,6 @@ use Rattle.sumpcandle.specs.declared.charges.Subject.{Subject}
 use Rattle.sumpcandle.specs.Weight.{weight}
 use Rattle.sumpcandle.specs.Links.{rowNumber, Spare, NextRow, Idle, NextOther}
 use Rattle.sumpcandle.specs.Work.{
-  loadsCell,
-  sumsCell,
   rowsCell,
   othersCell,
   workCells,
@@ -27,30 +25,12 @@ use Rattle.sumpcandle.specs.Work.{
   Weighs,
   IsSubject,
 }
-use Rattle.sumpcandle.specs.Parts.{SameTo, Weighed, Summed, LinkedFrom, OthersFrom}
+use Rattle.sumpcandle.specs.Parts.{SameTo, LinkedFrom, OthersFrom}
 use Rattle.sumpcandle.proofs.Ranges.{modes-few}
 use Rattle.sumpcandle.proofs.Filling.{same-less, same-cell, lent-same}
-use Rattle.sumpcandle.proofs.Weighing.{weighed-same, weighed-subject}
+use Rattle.sumpcandle.proofs.Weighing.{subject-same}
 
 -- ---- stores from the links on leave the working row of its table, with its weights
-
-summed-same :
-    {tab : Table} (kept : Kept tab) (u a : ℕ) {old row : List ℕ}
-    → SameTo rowsCell old row
-    → Summed tab u a (inAll tab) old
-    → Summed tab u a (inAll tab) row
-summed-same {tab} kept u a same x =
-    record {
-      load = λ i m h mode l.
-          let small = modes-few kept h in
-          same-cell same (loadsCell + modesMost * i + m) (omega (arith, kept .fewTransactions)) (x .load i m h mode l);
-      sum = λ i m c is mode l.
-          let small = modes-few kept (is .owner) in
-          ap₂ (λ (v w : ℕ). v * 2 ^ 32 + w)
-          (same-cell same (sumsCell + 2 * (modesMost * number tab i c + m)) (omega (arith, kept .fewTasks)) refl)
-          (same-cell same (sumsCell + 2 * (modesMost * number tab i c + m) + 1) (omega (arith, kept .fewTasks)) refl)
-          ∙ x .sum i m c is mode l;
-    }
 
 pub weighs-same :
     {old : List ℕ} {s : Subject}
@@ -59,21 +39,9 @@ pub weighs-same :
     → (row : List ℕ)
     → SameTo rowsCell old row
     → Lent row × (Weighs row s × (tableAt row ≡ tableAt old))
-weighs-same {old} {s} lent weighs row same =
+weighs-same {s = s} lent weighs row same =
     let (now, table) = lent-same lent row (same-less (omega arith) same) in
-    let kept = lent .holds .kept in
-    let tab = tableAt old in
-    let weighed : Weighed tab (s .u) (s .a) (inAll tab) old = record { weight = λ i m j is mode l. weighs .weight i m j is mode } in
-    let summed : Summed tab (s .u) (s .a) (inAll tab) old =
-    record { load = λ i m h mode l. weighs .load i m h mode; sum = λ i m c is mode l. weighs .sum i m c is mode } in (
-      now,
-      (
-        weighed-subject row tab s table (now .holds .kept)
-            (weighed-same kept (s .u) (s .a) (same-less (omega arith) same) weighed)
-            (summed-same kept (s .u) (s .a) same summed),
-        table,
-      ),
-    )
+    (now, (subject-same s table (lent .holds .kept) same weighs, table))
 
 -- ---- one store
 

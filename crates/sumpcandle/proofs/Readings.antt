@@ -164,8 +164,8 @@ module _ {row : List ℕ} (lent : Lent row) {i : ℕ} {x : Split} (split : IsSpl
     pub sum-at :
         {c : ℕ}
         → IsTask (tableAt row) i c
-        → getD row (sumsCell + 2 * (modesMost * (x .first + c) + m)) 0 * 2 ^ 32
-        + getD row (sumsCell + 2 * (modesMost * (x .first + c) + m) + 1) 0
+        → getD row (sumsCell + 2 * (modesMost * (x .first + c) + m)) 0
+        + getD row (sumsCell + 2 * (modesMost * (x .first + c) + m) + 1) 0 * 2 ^ 32
         ≡ heldBack (tableAt row) (s .u) (s .a) i m c
     unfolding number
     sum-at {c} t = rw (split .first) (subject .weighs .sum i m c t mode)

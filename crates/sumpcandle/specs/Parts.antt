@@ -1,9 +1,10 @@
--- A table's row, and the parts of a working row as they are filled: task by task, in the order of their numbers.
+-- A table's row, and the parts of a working row as they are filled: task by task or mode by mode, in the order of their
+-- numbers.
 use mathlib.Core.Path.{_≡_}
 use mathlib.Core.List.{List}
-use Prim.Native.Nat.{ℕ, _+_, _*_, _/_, _%_, _^_, _≤_, _<_}
-use lib.ListN.{length, getD, take, set}
-use Rattle.table.specs.Table.{Table, IsTask, transactions, modes}
+use Prim.Native.Nat.{ℕ, _+_, _*_, _^_, _≤_, _<_}
+use lib.ListN.{length, getD, take}
+use Rattle.table.specs.Table.{Table, IsTask, transactions, tasks, modes}
 use Rattle.table.specs.Limits.{modesMost, tasksMost, tasksInAll}
 use Rattle.table.specs.Number.{before, number}
 use Rattle.table.specs.Kept.{Kept}
@@ -44,31 +45,33 @@ pub record Phased (tab : Table) (k : ℕ) (row : List ℕ) : Type 0 where
       → number tab i c < k
       → getD row (heldCell + tasksMost * number tab i c + j) 0 ≡ heldOf tab i c j
 
--- the weights of the tasks with numbers below k, for the subject a of u
-pub record Weighed (tab : Table) (u a k : ℕ) (row : List ℕ) : Type 0 where
-  pub weight :
-      (i m j : ℕ)
-      → IsTask tab i j
-      → m < modes tab i
-      → number tab i j < k
-      → getD row (weightsCell + tasksInAll * m + number tab i j) 0 ≡ weight tab u a i m j
+-- transaction i has n tasks, with numbers from f on
+pub record TasksOf (tab : Table) (i f n : ℕ) : Type 0 where
+  pub owner : i < transactions tab
+  pub first : f ≡ before tab i
+  pub count : n ≡ tasks tab i
 
--- the loads of the transactions, and the held-back sums of the candidates, that have numbers below k
-pub record Summed (tab : Table) (u a k : ℕ) (row : List ℕ) : Type 0 where
-  pub load :
-      (i m : ℕ)
-      → i < transactions tab
-      → m < modes tab i
-      → before tab i < k
-      → getD row (loadsCell + modesMost * i + m) 0 ≡ weights tab u a i m
+-- the weights of transaction i in mode m, and their load, for the subject a of u
+pub record Loaded (tab : Table) (u a i m : ℕ) (row : List ℕ) : Type 0 where
+  pub weight :
+      (j : ℕ)
+      → IsTask tab i j
+      → getD row (weightsCell + tasksInAll * m + number tab i j) 0 ≡ weight tab u a i m j
+  pub load : getD row (loadsCell + modesMost * i + m) 0 ≡ weights tab u a i m
+
+-- the held-back sums of its candidates
+pub record Summed (tab : Table) (u a i m : ℕ) (row : List ℕ) : Type 0 where
   pub sum :
-      (i m c : ℕ)
+      (c : ℕ)
       → IsTask tab i c
-      → m < modes tab i
-      → number tab i c < k
-      → getD row (sumsCell + 2 * (modesMost * number tab i c + m)) 0 * 2 ^ 32
-      + getD row (sumsCell + 2 * (modesMost * number tab i c + m) + 1) 0
+      → getD row (sumsCell + 2 * (modesMost * number tab i c + m)) 0
+      + getD row (sumsCell + 2 * (modesMost * number tab i c + m) + 1) 0 * 2 ^ 32
       ≡ heldBack tab u a i m c
+
+-- both for the modes below k, where mode m of transaction i is the one at modesMost * i + m
+pub record WeighedTo (tab : Table) (u a k : ℕ) (row : List ℕ) : Type 0 where
+  pub loaded : (i m : ℕ) → i < transactions tab → m < modes tab i → modesMost * i + m < k → Loaded tab u a i m row
+  pub summed : (i m : ℕ) → i < transactions tab → m < modes tab i → modesMost * i + m < k → Summed tab u a i m row
 
 -- the links of the rows of tasks with numbers from k on
 pub record LinkedFrom (tab : Table) (u a k : ℕ) (row : List ℕ) : Type 0 where
@@ -82,11 +85,3 @@ pub record LinkedFrom (tab : Table) (u a k : ℕ) (row : List ℕ) : Type 0 wher
 -- the links of the transactions from i on
 pub record OthersFrom (tab : Table) (u a i : ℕ) (row : List ℕ) : Type 0 where
   pub others : (j : ℕ) → i ≤ j → j ≤ transactions tab → NextOther tab u a j (getD row (othersCell + j) 0)
-
--- the row with the load of transaction i in mode m, and the held-back sum of candidate number k
-unfoldable pub withSums : List ℕ → ℕ → ℕ → ℕ → ℕ → ℕ → List ℕ
-withSums row i k m load held =
-    set
-    (set (set row (loadsCell + modesMost * i + m) load) (sumsCell + 2 * (modesMost * k + m)) (held / 2 ^ 32))
-    (sumsCell + 2 * (modesMost * k + m) + 1)
-    (held % 2 ^ 32)

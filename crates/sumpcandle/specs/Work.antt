@@ -17,7 +17,7 @@ use Rattle.sumpcandle.specs.Links.{rowNumber, NextRow, NextOther}
 
 -- where the parts begin: after the table's row a phase and a held-back count for each task as candidate and each place in
 -- its transaction; a weight for each mode and task; a load for each transaction and mode; for each task as candidate and
--- each mode a held-back sum, in two cells, and the next row to be charged; and for each transaction the next other one
+-- each mode a held-back sum, its lower half first, and the next row to be charged; and for each transaction the next other one
 
 abbrev pub phasesCell : ℕ
 phasesCell = rowCells
@@ -88,8 +88,8 @@ pub record Weighs (row : List ℕ) (s : Subject) : Type 0 where
       (i m c : ℕ)
       → IsTask (tableAt row) i c
       → m < modes (tableAt row) i
-      → getD row (sumsCell + 2 * (modesMost * number (tableAt row) i c + m)) 0 * 2 ^ 32
-      + getD row (sumsCell + 2 * (modesMost * number (tableAt row) i c + m) + 1) 0
+      → getD row (sumsCell + 2 * (modesMost * number (tableAt row) i c + m)) 0
+      + getD row (sumsCell + 2 * (modesMost * number (tableAt row) i c + m) + 1) 0 * 2 ^ 32
       ≡ heldBack (tableAt row) (s .u) (s .a) i m c
 
 -- the working row is the subject's: its weights, and the links over what its rivals charge

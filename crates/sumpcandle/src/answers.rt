@@ -117,7 +117,7 @@ pub(crate) fn task_cells(
     ensures { λ _. ⌜ tableAt (now (row .exit)) ≡ tableOf (now (table .entry)) ⌝ }
 {
     let s = work::task(table, k);
-    work::weigh(table, row, s);
+    work::weigh(row, s);
     links::link(row, s);
     answer(&*row, s, budget).cells(Table::deadline(table, s.u, s.a))
 }

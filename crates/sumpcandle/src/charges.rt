@@ -193,7 +193,7 @@ fn held_back(row: &[u32; Work::CELLS], s: Subject, i: usize, m: usize, c: usize,
     ensures { λ r. ⌜ r ≡ heldBack (tableAt (now (row .entry))) (s .u) (s .a) i m c ⌝ }
 {
     let at = Work::SUMS + 2 * (Transaction::MODES * (x.first + c) + m);
-    row::wide(row[at]) * 4_294_967_296 + row::wide(row[at + 1])
+    row::wide(row[at]) + row::wide(row[at + 1]) * 4_294_967_296
 }
 
 // The weights of transaction i in mode m.

@@ -11,7 +11,7 @@ impl Work {
     pub(crate) const HELD: usize = Work::PHASES + Table::TASKS * Transaction::TASKS;
 
     // For the task under analysis: a weight for each mode and task, a load for each transaction and mode, and for each
-    // task as candidate and each mode a held-back sum in two cells.
+    // task as candidate and each mode a held-back sum in two cells, the lower half first.
     pub(crate) const WEIGHTS: usize = Work::HELD + Table::TASKS * Transaction::TASKS;
 
     pub(crate) const LOADS: usize = Work::WEIGHTS + Transaction::MODES * Table::TASKS;

@@ -1,5 +1,6 @@
 // Filling the working row: the table's row with its phases and held-back jobs once for a table, and the weights with their
-// sums once for each task under analysis. What is read of the table comes from its own row.
+// sums once for each task under analysis. What is read of the table comes from its own row at first, and then from the
+// working row.
 use super::charges::Subject;
 use super::layout::Work;
 use super::row;
@@ -7,17 +8,17 @@ use image::Table;
 use image::Task;
 use image::Transaction;
 ghost use mathlib.Core.Path.{_≡_};
-ghost use Prim.Native.Nat.{_+_, _<_, _^_};
+ghost use Prim.Native.Nat.{_+_, _*_, _<_, _^_};
 ghost use lib.ListN.{length, take};
-ghost use Rattle.table.specs.Table.{IsTask, modes};
-ghost use Rattle.table.specs.Limits.{transactionsMost, modesMost, tasksInAll};
-ghost use Rattle.table.specs.Number.{inAll};
+ghost use Rattle.table.specs.Table.{IsTask, transactions, modes};
+ghost use Rattle.table.specs.Limits.{modesMost};
+ghost use Rattle.table.specs.Number.{before, inAll};
 ghost use Rattle.image.specs.Row.{rowCells, tableOf};
 ghost use Rattle.periods.specs.Phase.{phase};
 ghost use Rattle.analysis.specs.Charge.{phaseOf, heldOf};
-ghost use Rattle.sumpcandle.specs.Work.{workCells, weightsCell, loadsCell, Lent, Chosen, Weighs, tableAt};
-ghost use Rattle.sumpcandle.specs.Weight.{weight, weights, heldBack};
-ghost use Rattle.sumpcandle.specs.Parts.{RowOfTable, SameTo, IsSubjectAt, Phased, Weighed, Summed, withSums};
+ghost use Rattle.sumpcandle.specs.Work.{workCells, weightsCell, Holds, Lent, Chosen, Weighs, tableAt};
+ghost use Rattle.sumpcandle.specs.Weight.{weight, heldBack};
+ghost use Rattle.sumpcandle.specs.Parts.{RowOfTable, SameTo, IsSubjectAt, Phased, TasksOf, Loaded, WeighedTo};
 
 // (offset − instant) mod period
 fn phase(period: u32, offset: u32, instant: u32) -> u32
@@ -134,12 +135,17 @@ pub(crate) fn prepare(table: &[u32; Table::CELLS], work: &mut [u32; Work::CELLS]
     phases(table, work);
 }
 
-// The time of task j in mode m where it is a rival of the subject, else 0.
-fn weight(table: &[u32; Table::CELLS], s: Subject, i: usize, m: usize, j: usize) -> u32
-    requires { ⌜ Chosen (tableOf (now table)) s ⌝ }
-    ensures { λ r. ⌜ r ≡ weight (tableOf (now (table .entry))) (s .u) (s .a) i m j ⌝ }
+// The time of task j, number k, in mode m where it is a rival of the subject, else 0.
+fn weight(work: &[u32; Work::CELLS], s: Subject, i: usize, m: usize, j: usize, k: usize) -> u32
+    requires { ⌜ Holds (now work) ⌝ }
+    requires { ⌜ Chosen (tableAt (now work)) s ⌝ }
+    requires { ⌜ IsTask (tableAt (now work)) i j ⌝ }
+    requires { ⌜ m < modes (tableAt (now work)) i ⌝ }
+    requires { ⌜ k ≡ before (tableAt (now work)) i + j ⌝ }
+    ensures { λ r. ⌜ r ≡ weight (tableAt (now (work .entry))) (s .u) (s .a) i m j ⌝ }
 {
-    if Table::priority(table, i, j) < s.priority {
+    let cell = Table::TASKS_CELL + k * Task::CELLS;
+    if work[cell + Task::PRIORITY_CELL] < s.priority {
         return 0;
     }
     if i == s.u {
@@ -147,143 +153,123 @@ fn weight(table: &[u32; Table::CELLS], s: Subject, i: usize, m: usize, j: usize)
             return 0;
         }
     }
-    Table::time(table, i, m, j)
+    work[cell + (Task::TIMES_CELL + m)]
 }
 
-// The weights of the task with number k, one for each mode.
-fn put_weights(table: &[u32; Table::CELLS], work: &mut [u32; Work::CELLS], s: Subject, k: usize)
-    requires { ⌜ RowOfTable (now table) ⌝ }
-    requires { ⌜ length (now work) ≡ workCells ⌝ }
-    requires { ⌜ Chosen (tableOf (now table)) s ⌝ }
-    requires { ⌜ k < inAll (tableOf (now table)) ⌝ }
-    requires { ⌜ Weighed (tableOf (now table)) (s .u) (s .a) k (now work) ⌝ }
-    ensures { λ _. ⌜ Weighed (tableOf (now (table .entry))) (s .u) (s .a) (k + 1) (now (work .exit)) ⌝ }
+// The weights of transaction i in mode m, and its load.
+fn put_weights(
+    work: &mut [u32; Work::CELLS],
+    s: Subject,
+    i: usize,
+    m: usize,
+    first: usize,
+    count: usize,
+)
+    requires { ⌜ Lent (now work) ⌝ }
+    requires { ⌜ Chosen (tableAt (now work)) s ⌝ }
+    requires { ⌜ TasksOf (tableAt (now work)) i first count ⌝ }
+    requires { ⌜ m < modes (tableAt (now work)) i ⌝ }
+    requires { ⌜ WeighedTo (tableAt (now work)) (s .u) (s .a) (modesMost * i + m) (now work) ⌝ }
     ensures { λ _. ⌜ SameTo weightsCell (now (work .entry)) (now (work .exit)) ⌝ }
+    ensures { λ _. ⌜ WeighedTo (tableAt (now (work .entry))) (s .u) (s .a) (modesMost * i + m) (now (work .exit)) ⌝ }
+    ensures { λ _. ⌜ Loaded (tableAt (now (work .entry))) (s .u) (s .a) i m (now (work .exit)) ⌝ }
 {
-    let x = task(table, k);
-    let i = x.u;
-    let j = x.a;
-    let count = row::index(Table::modes(table, i));
-    let mut m: usize = 0;
-    while m < count {
-        work[Work::WEIGHTS + Table::TASKS * m + k] = weight(table, s, i, m, j);
-        m += 1;
+    let mut load: u32 = 0;
+    let mut j: usize = 0;
+    while j < count {
+        let weight = weight(&*work, s, i, m, j, first + j);
+        work[Work::WEIGHTS + Table::TASKS * m + (first + j)] = weight;
+        load += weight;
+        j += 1;
     }
+    work[Work::LOADS + Transaction::MODES * i + m] = load;
 }
 
-fn all_weights(table: &[u32; Table::CELLS], work: &mut [u32; Work::CELLS], s: Subject)
-    requires { ⌜ RowOfTable (now table) ⌝ }
-    requires { ⌜ length (now work) ≡ workCells ⌝ }
-    requires { ⌜ Chosen (tableOf (now table)) s ⌝ }
-    ensures { λ _. ⌜ Weighed (tableOf (now (table .entry))) (s .u) (s .a) (inAll (tableOf (now (table .entry)))) (now (work .exit)) ⌝ }
-    ensures { λ _. ⌜ SameTo weightsCell (now (work .entry)) (now (work .exit)) ⌝ }
-{
-    let count = row::index(Table::in_all(table));
-    let mut k: usize = 0;
-    while k < count {
-        put_weights(table, work, s, k);
-        k += 1;
-    }
-}
-
-// The weights of a transaction in one mode, in all, and those of the jobs held back to a candidate's instant.
-struct Sums {
-    load: u32,
-    held: u64,
-}
-
-// The sums of mode m and candidate c of transaction i, from the weights and the held-back jobs in the row.
-fn add_up(
-    table: &[u32; Table::CELLS],
+// What the jobs held back to candidate c's instant weigh, from the cells of the row.
+fn held_back(
     work: &[u32; Work::CELLS],
     s: Subject,
     i: usize,
     m: usize,
+    first: usize,
+    count: usize,
     c: usize,
-) -> Sums
-    requires { ⌜ RowOfTable (now table) ⌝ }
-    requires { ⌜ Phased (tableOf (now table)) (inAll (tableOf (now table))) (now work) ⌝ }
-    requires { ⌜ Weighed (tableOf (now table)) (s .u) (s .a) (inAll (tableOf (now table))) (now work) ⌝ }
-    requires { ⌜ IsTask (tableOf (now table)) i c ⌝ }
-    requires { ⌜ m < modes (tableOf (now table)) i ⌝ }
-    ensures { λ r. ⌜ r .load ≡ weights (tableOf (now (table .entry))) (s .u) (s .a) i m ⌝ }
-    ensures { λ r. ⌜ r .held ≡ heldBack (tableOf (now (table .entry))) (s .u) (s .a) i m c ⌝ }
+) -> u64
+    requires { ⌜ Lent (now work) ⌝ }
+    requires { ⌜ TasksOf (tableAt (now work)) i first count ⌝ }
+    requires { ⌜ m < modes (tableAt (now work)) i ⌝ }
+    requires { ⌜ Loaded (tableAt (now work)) (s .u) (s .a) i m (now work) ⌝ }
+    requires { ⌜ c < count ⌝ }
+    ensures { λ r. ⌜ r ≡ heldBack (tableAt (now (work .entry))) (s .u) (s .a) i m c ⌝ }
 {
-    let first = row::index(Table::first(table, i));
-    let count = row::index(Table::tasks(table, i));
-    let mut load: u32 = 0;
     let mut held: u64 = 0;
     let mut j: usize = 0;
     while j < count {
-        let weight = work[Work::WEIGHTS + Table::TASKS * m + (first + j)];
-        load += weight;
         held += row::wide(work[Work::HELD + Transaction::TASKS * (first + c) + j])
-            * row::wide(weight);
+            * row::wide(work[Work::WEIGHTS + Table::TASKS * m + (first + j)]);
         j += 1;
     }
-    Sums { load, held }
+    held
 }
 
-fn put(work: &mut [u32; Work::CELLS], i: usize, k: usize, m: usize, x: Sums)
-    requires { ⌜ i < transactionsMost ⌝ }
-    requires { ⌜ k < tasksInAll ⌝ }
-    requires { ⌜ m < modesMost ⌝ }
-    ensures { λ _. ⌜ now (work .exit) ≡ withSums (now (work .entry)) i k m (x .load) (x .held) ⌝ }
+// The held-back sums of the candidates of transaction i in mode m, each with its lower half first.
+fn put_sums(
+    work: &mut [u32; Work::CELLS],
+    s: Subject,
+    i: usize,
+    m: usize,
+    first: usize,
+    count: usize,
+)
+    requires { ⌜ Lent (now work) ⌝ }
+    requires { ⌜ TasksOf (tableAt (now work)) i first count ⌝ }
+    requires { ⌜ m < modes (tableAt (now work)) i ⌝ }
+    requires { ⌜ WeighedTo (tableAt (now work)) (s .u) (s .a) (modesMost * i + m) (now work) ⌝ }
+    requires { ⌜ Loaded (tableAt (now work)) (s .u) (s .a) i m (now work) ⌝ }
+    ensures { λ _. ⌜ SameTo weightsCell (now (work .entry)) (now (work .exit)) ⌝ }
+    ensures { λ _. ⌜ WeighedTo (tableAt (now (work .entry))) (s .u) (s .a) (modesMost * i + (m + 1)) (now (work .exit)) ⌝ }
 {
-    let at = Work::SUMS + 2 * (Transaction::MODES * k + m);
-    work[Work::LOADS + Transaction::MODES * i + m] = x.load;
-    work[at] = (x.held / 4_294_967_296) as u32;
-    work[at + 1] = (x.held % 4_294_967_296) as u32;
+    let mut c: usize = 0;
+    while c < count {
+        let held = held_back(&*work, s, i, m, first, count, c);
+        let at = Work::SUMS + 2 * (Transaction::MODES * (first + c) + m);
+        work[at] = (held % 4_294_967_296) as u32;
+        work[at + 1] = (held / 4_294_967_296) as u32;
+        c += 1;
+    }
 }
 
-// The sums of the task with number k as candidate, and of its transaction, one for each mode.
-fn put_sums(table: &[u32; Table::CELLS], work: &mut [u32; Work::CELLS], s: Subject, k: usize)
-    requires { ⌜ RowOfTable (now table) ⌝ }
-    requires { ⌜ length (now work) ≡ workCells ⌝ }
-    requires { ⌜ Phased (tableOf (now table)) (inAll (tableOf (now table))) (now work) ⌝ }
-    requires { ⌜ Weighed (tableOf (now table)) (s .u) (s .a) (inAll (tableOf (now table))) (now work) ⌝ }
-    requires { ⌜ k < inAll (tableOf (now table)) ⌝ }
-    requires { ⌜ Summed (tableOf (now table)) (s .u) (s .a) k (now work) ⌝ }
-    ensures { λ _. ⌜ Summed (tableOf (now (table .entry))) (s .u) (s .a) (k + 1) (now (work .exit)) ⌝ }
-    ensures { λ _. ⌜ SameTo loadsCell (now (work .entry)) (now (work .exit)) ⌝ }
+fn weigh_transaction(work: &mut [u32; Work::CELLS], s: Subject, i: usize)
+    requires { ⌜ Lent (now work) ⌝ }
+    requires { ⌜ Chosen (tableAt (now work)) s ⌝ }
+    requires { ⌜ i < transactions (tableAt (now work)) ⌝ }
+    requires { ⌜ WeighedTo (tableAt (now work)) (s .u) (s .a) (modesMost * i) (now work) ⌝ }
+    ensures { λ _. ⌜ SameTo weightsCell (now (work .entry)) (now (work .exit)) ⌝ }
+    ensures { λ _. ⌜ WeighedTo (tableAt (now (work .entry))) (s .u) (s .a) (modesMost * (i + 1)) (now (work .exit)) ⌝ }
 {
-    let x = task(table, k);
-    let i = x.u;
-    let c = x.a;
-    let count = row::index(Table::modes(table, i));
+    let first = row::before(&*work, i);
+    let count = row::tasks(&*work, i);
+    let modes = row::modes(&*work, i);
     let mut m: usize = 0;
-    while m < count {
-        put(work, i, k, m, add_up(table, &*work, s, i, m, c));
+    while m < modes {
+        put_weights(work, s, i, m, first, count);
+        put_sums(work, s, i, m, first, count);
         m += 1;
     }
 }
 
-fn all_sums(table: &[u32; Table::CELLS], work: &mut [u32; Work::CELLS], s: Subject)
-    requires { ⌜ RowOfTable (now table) ⌝ }
-    requires { ⌜ length (now work) ≡ workCells ⌝ }
-    requires { ⌜ Phased (tableOf (now table)) (inAll (tableOf (now table))) (now work) ⌝ }
-    requires { ⌜ Weighed (tableOf (now table)) (s .u) (s .a) (inAll (tableOf (now table))) (now work) ⌝ }
-    ensures { λ _. ⌜ Summed (tableOf (now (table .entry))) (s .u) (s .a) (inAll (tableOf (now (table .entry)))) (now (work .exit)) ⌝ }
-    ensures { λ _. ⌜ SameTo loadsCell (now (work .entry)) (now (work .exit)) ⌝ }
-{
-    let count = row::index(Table::in_all(table));
-    let mut k: usize = 0;
-    while k < count {
-        put_sums(table, work, s, k);
-        k += 1;
-    }
-}
-
 // The weights of the task under analysis, in a working row of the table.
-pub(crate) fn weigh(table: &[u32; Table::CELLS], work: &mut [u32; Work::CELLS], s: Subject)
-    requires { ⌜ RowOfTable (now table) ⌝ }
+pub(crate) fn weigh(work: &mut [u32; Work::CELLS], s: Subject)
     requires { ⌜ Lent (now work) ⌝ }
-    requires { ⌜ tableAt (now work) ≡ tableOf (now table) ⌝ }
-    requires { ⌜ Chosen (tableOf (now table)) s ⌝ }
+    requires { ⌜ Chosen (tableAt (now work)) s ⌝ }
     ensures { λ _. ⌜ Lent (now (work .exit)) ⌝ }
-    ensures { λ _. ⌜ tableAt (now (work .exit)) ≡ tableOf (now (table .entry)) ⌝ }
+    ensures { λ _. ⌜ tableAt (now (work .exit)) ≡ tableAt (now (work .entry)) ⌝ }
     ensures { λ _. ⌜ Weighs (now (work .exit)) s ⌝ }
 {
-    all_weights(table, work, s);
-    all_sums(table, work, s);
+    let count = row::transactions(&*work);
+    let mut i: usize = 0;
+    while i < count {
+        weigh_transaction(work, s, i);
+        i += 1;
+    }
 }

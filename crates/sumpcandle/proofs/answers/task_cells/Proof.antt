@@ -18,14 +18,17 @@ task-requires : tie.Need-task-requires
 task-requires c κs = search needs
 
 weigh-requires : tie.Need-weigh-requires
-weigh-requires c κs = search needs
+weigh-requires c κs =
+    let t = c .before in
+    let (isRow, (lent, (table, inside))) = t .before .pre in
+    (lent, subst (λ (x : Table). Chosen x (t .task .result)) (sym table) (t .task .ensures .chosen))
 
 link-requires : tie.Need-link-requires
 link-requires c κs =
     let w = c .before in
     let t = w .before .before in
     let (lent, (table, weighs)) = w .weigh .ensures in
-    (lent, (subst (λ (x : Table). Chosen x (t .task .result)) (sym table) (t .task .ensures .chosen), weighs))
+    (lent, (subst (λ (x : Table). Chosen x (t .task .result)) (sym (table ∙ t .before .pre .1 .1 .0)) (t .task .ensures .chosen), weighs))
 
 answer-requires : tie.Need-answer-requires
 answer-requires c κs = search needs
@@ -45,7 +48,7 @@ returns c =
     let s = t .task .result in
     let tab = tableOf (now (t .before .args .table)) in
     let budget = t .before .args .budget in
-    let table = l .link .ensures .1 .0 ∙ w .weigh .ensures .1 .0 in
+    let table = l .link .ensures .1 .0 ∙ w .weigh .ensures .1 .0 ∙ t .before .pre .1 .1 .0 in
     let is : c .cells .result ≡ written (cells (deadline tab (s .u) (s .a)) (answer imposed tab (s .u) (s .a) budget)) =
     c .cells .ensures
     ∙ ap₂ cellsFor (c .before .deadline .ensures)

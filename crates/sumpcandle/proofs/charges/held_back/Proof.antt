@@ -34,12 +34,6 @@ element-copy-out-wide c = omega (arith, few (c .before))
 wide-requires : tie.Need-wide-requires
 wide-requires c κs = search needs
 
-mul-result : tie.Need-mul-result
-mul-result c =
-    let s = c .before .before .before in
-    let (lent, (subject, (isTask, (mode, split)))) = s .pre in
-    omega (arith, c .wide .ensures, sum-at lent split subject mode isTask, held-back-le (lent .holds .kept) (s .args .s .u) (s .args .s .a) (isTask .owner) mode (s .args .c))
-
 add-wide : tie.Need-add-wide
 add-wide c = omega (arith, few (c .before .before .before))
 
@@ -51,6 +45,12 @@ element-copy-out-wide-2 c = omega (arith, few (c .before .before .before))
 
 wide-requires-2 : tie.Need-wide-requires-2
 wide-requires-2 c κs = search needs
+
+mul-result : tie.Need-mul-result
+mul-result c =
+    let s = c .before .before .before .before .before in
+    let (lent, (subject, (isTask, (mode, split)))) = s .pre in
+    omega (arith, c .wide2 .ensures, sum-at lent split subject mode isTask, held-back-le (lent .holds .kept) (s .args .s .u) (s .args .s .a) (isTask .owner) mode (s .args .c))
 
 add-result : tie.Need-add-result
 add-result c =
@@ -76,10 +76,10 @@ held-back-spec =
     mul-wide
     element-copy-out-wide
     wide-requires
-    mul-result
     add-wide
     mul-wide-2
     element-copy-out-wide-2
     wide-requires-2
+    mul-result
     add-result
     returns)

@@ -1,125 +1,109 @@
--- `put_sums` meets its contract. The invariant: the candidates before k have their sums, and so has candidate number k for
--- the first m modes; the same for loads.
-use mathlib.Core.Path.{_≡_, subst, _∙_}
-use Prim.Native.Nat.{ℕ, _-_, _≤_, _<_}
-use native.Mathlib.Omega.{arith}
+-- The loop has stored the sums of the first c candidates. Assumes nothing.
 use borrow.Author.Needs.{needs}
-use denote.Ref.{now}
-use Rattle.table.specs.Table.{modes as modesIn}
-use Rattle.image.specs.Row.{tableOf}
-use Rattle.sumpcandle.proofs.Filling.{same-less, phased-same}
-use Rattle.sumpcandle.proofs.Weighing.{modes-few, weighed-same, SumsTo, sums-none, sums-next, sums-all}
+use mathlib.Core.Path.{_≡_, ap, _∙_, subst}
+use Prim.Native.Nat.{ℕ, _+_, _-_, _≤_, _<_}
+use native.Mathlib.Omega.{arith}
+use Rattle.table.specs.Limits.{modesMost, tasksInAll}
+use Rattle.table.specs.Table.{Table}
+use Rattle.sumpcandle.specs.Work.{tableAt, Lent}
+use Rattle.sumpcandle.specs.Weight.{heldBack}
+use Rattle.sumpcandle.proofs.Filling.{same-less, lent-same}
+use Rattle.sumpcandle.proofs.Weighing.{small, loaded-same, SumsTo, sums-none, sums-next, sums-all}
 use Rattle.sumpcandle.proofs.work.put_sums.Statement.{statement}
 use Rattle.sumpcandle.proofs.work.put_sums.Tie as tie
 
 abbrev Inv-loop : tie.InvT-loop
-Inv-loop table work₀ s k i c count m₀ work m = (m ≤ count) × SumsTo (tableOf table) (s .u) (s .a) k i c m work₀ work
+Inv-loop work₀ s i m first count c₀ work c = (c ≤ count) × SumsTo (tableAt work₀) (s .u) (s .a) i m first c work₀ work
 
 abbrev μ-loop : tie.MeasureT-loop
-μ-loop table work₀ s k i c count m₀ work m = count - m
+μ-loop work₀ s i m first count c₀ work c = count - c
 
--- at most 64 candidates, each with at most 8 modes
+-- the cells stored lie within the row
+few : (d : tie.In-loop Inv-loop μ-loop) → (d .before .before .args .first + d .before .loop .c < tasksInAll) × (d .before .before .args .m < modesMost)
+few d =
+    let (lent, (own, (mode, rest))) = d .before .before .pre in
+    small (lent .holds .kept) own mode (d .loop-test .taken)
 
-small : (c : tie.Start Inv-loop μ-loop) → c .args .k < 64
-small c = omega (arith, c .pre .1 .1 .1 .1 .0, c .pre .0 .kept .fewTasks)
-
-few : (c : tie.After-index Inv-loop μ-loop) → c .index .result ≤ 8
-few c =
-    let x = c .before .before in
-    omega (arith, c .index .ensures, c .before .modes .ensures, modes-few (x .before .pre .0 .kept) (x .task .ensures .chosen .isTask .owner))
-
-inside : (c : tie.After-task Inv-loop μ-loop) → c .task .result .u < 32
-inside c = omega (arith, c .task .ensures .chosen .isTask .owner, c .before .pre .0 .kept .fewTransactions)
-
-task-requires : tie.Need-task-requires Inv-loop μ-loop
-task-requires c κs = (c .pre .0, c .pre .1 .1 .1 .1 .0)
-
-modes-requires : tie.Need-modes-requires Inv-loop μ-loop
-modes-requires c κs = search needs
-
-index-requires : tie.Need-index-requires Inv-loop μ-loop
-index-requires c κs = search needs
+-- the row of a turn
+present : (l : tie.At-loop Inv-loop μ-loop) → Lent (l .loop .work) × (tableAt (l .loop .work) ≡ tableAt (l .before .args .work .now))
+present l = lent-same (l .before .pre .0) (l .loop .work) (same-less (omega arith) (l .loop .inv .1 .same))
 
 loop-holds : tie.Need-loop-holds Inv-loop μ-loop
 loop-holds c =
-    let t = c .before .before in
-    let x = t .before in
-    let a = x .args in (
-      omega arith,
-      sums-none (x .pre .0 .kept) (a .s .u) (a .s .a) (t .task .result .u) (t .task .result .a) (now (a .work)) (a .k) (x .pre .1 .1 .1 .1 .1),
-    )
+    let (lent, (own, (mode, (done, loaded)))) = c .pre in
+    (omega arith, sums-none (lent .holds .kept) (c .args .s .u) (c .args .s .a) own mode done)
 
-add-up-requires : tie.Need-add-up-requires Inv-loop μ-loop
-add-up-requires c κs =
-    let n = c .before .before in
-    let l = n .before in
-    let y = l .before in
-    let t = y .before .before in
-    let x = t .before in
-    let same = l .loop .inv .1 .same in (
-      x .pre .0,
-      (
-        phased-same (x .pre .0 .kept) (same-less (omega arith) same) (x .pre .1 .1 .0),
-        (
-          weighed-same (x .pre .0 .kept) (x .args .s .u) (x .args .s .a) same (x .pre .1 .1 .1 .0),
-          (t .task .ensures .chosen .isTask, omega (arith, n .loop-test .taken, y .index .ensures, y .before .modes .ensures)),
-        ),
-      ),
-    )
+held-back-requires : tie.Need-held-back-requires Inv-loop μ-loop
+held-back-requires c κs =
+    let l = c .before .before in
+    let x = l .before .args in
+    let (lent, (own, (mode, (done, loaded)))) = l .before .pre in
+    let (now, e) = present l in
+    (now, rw e (own, (mode, (loaded-same (lent .holds .kept) (x .s .u) (x .s .a) (own .owner) mode (l .loop .inv .1 .same) loaded, c .before .loop-test .taken))))
 
-put-requires : tie.Need-put-requires Inv-loop μ-loop
-put-requires c κs =
-    let n = c .before .before .before in
-    let y = n .before .before in
-    let t = y .before .before in
-    (inside t, (small (t .before), omega (arith, few y, n .loop-test .taken)))
+add-at : tie.Need-add-at Inv-loop μ-loop
+add-at c = omega (arith, few (c .before .before))
 
-add-m : tie.Need-add-m Inv-loop μ-loop
-add-m c =
-    let n = c .before .before .before .before in
-    omega (arith, few (n .before .before), n .loop-test .taken)
+mul-at : tie.Need-mul-at Inv-loop μ-loop
+mul-at c = omega (arith, few (c .before .before))
+
+add-at-2 : tie.Need-add-at-2 Inv-loop μ-loop
+add-at-2 c = omega (arith, few (c .before .before))
+
+mul-at-2 : tie.Need-mul-at-2 Inv-loop μ-loop
+mul-at-2 c = omega (arith, few (c .before .before))
+
+add-at-3 : tie.Need-add-at-3 Inv-loop μ-loop
+add-at-3 c = omega (arith, few (c .before .before))
+
+cast-work : tie.Need-cast-work Inv-loop μ-loop
+cast-work c = search needs
+
+mul-work : tie.Need-mul-work Inv-loop μ-loop
+mul-work c = omega (arith, few (c .before .before))
+
+element-write-work : tie.Need-element-write-work Inv-loop μ-loop
+element-write-work c = omega (arith, few (c .before .before))
+
+cast-work-2 : tie.Need-cast-work-2 Inv-loop μ-loop
+cast-work-2 c = search needs
+
+add-work : tie.Need-add-work Inv-loop μ-loop
+add-work c = omega (arith, few (c .before .before))
+
+mul-work-2 : tie.Need-mul-work-2 Inv-loop μ-loop
+mul-work-2 c = omega (arith, few (c .before .before))
+
+element-write-work-2 : tie.Need-element-write-work-2 Inv-loop μ-loop
+element-write-work-2 c = omega (arith, few (c .before .before))
+
+add-c : tie.Need-add-c Inv-loop μ-loop
+add-c c = omega (arith, few (c .before .before))
 
 loop-less : tie.Need-loop-less Inv-loop μ-loop
-loop-less c = omega (arith, c .before .before .before .before .loop-test .taken)
+loop-less c = omega (arith, c .before .before .loop-test .taken)
 
 loop-again : tie.Need-loop-again Inv-loop μ-loop
 loop-again c =
-    let u = c .before in
-    let n = u .before .before .before in
-    let l = n .before in
-    let y = l .before in
-    let t = y .before .before in
-    let x = t .before in
-    let a = x .args in (
-      omega (arith, n .loop-test .taken),
-      rw (c .put .ensures)
-          (sums-next (x .pre .0 .kept) (a .s .u) (a .s .a) (t .task .result .u) (t .task .result .a) (now (a .work)) (a .k) (l .loop .m)
-          (u .add-up .result .load)
-          (u .add-up .result .held)
-          (l .loop .work)
-          (inside t)
-          (small x)
-          (omega (arith, few y, n .loop-test .taken))
-          (l .loop .inv .1 .same .size ∙ x .pre .1 .0)
-          (u .add-up .ensures .0)
-          (u .add-up .ensures .1)
-          (l .loop .inv .1)),
+    let l = c .before .before .before in
+    let x = l .before .args in
+    let (lent, (own, (mode, (done, loaded)))) = l .before .pre in
+    let to = l .loop .inv .1 in
+    let is = c .held-back .ensures ∙ ap (λ (t : Table). heldBack t (x .s .u) (x .s .a) (x .i) (x .m) (l .loop .c)) (present l .1) in (
+      omega (arith, c .before .before .loop-test .taken),
+      sums-next (lent .holds .kept) (x .s .u) (x .s .a) own mode (c .before .before .loop-test .taken) (to .same .size ∙ lent .holds .size) is to,
     )
 
 returns : tie.Need-returns Inv-loop μ-loop
 returns c =
     let l = c .before in
-    let y = l .before in
-    let t = y .before .before in
-    let a = t .before .args in
-    let tab = tableOf (now (a .table)) in
-    let i = t .task .result .u in
-    let d = t .task .result .a in
-    let all : l .loop .m ≡ modesIn tab i = omega (arith, c .loop-test .left, l .loop .inv .0, y .index .ensures, y .before .modes .ensures) in (
-      sums-all (t .before .pre .0 .kept) (a .s .u) (a .s .a) i d (now (a .work)) (a .k) (l .loop .work) (t .task .ensures .chosen .isTask)
-          (t .task .ensures .numbered)
-          (subst (λ (n : ℕ). SumsTo tab (a .s .u) (a .s .a) (a .k) i d n (now (a .work)) (l .loop .work)) all (l .loop .inv .1)),
-      l .loop .inv .1 .same,
+    let x = l .before .args in
+    let (lent, (own, (mode, (done, loaded)))) = l .before .pre in
+    let (most, to) = l .loop .inv in
+    let all : l .loop .c ≡ x .count = omega (arith, c .loop-test .left) in (
+      same-less (omega arith) (to .same),
+      sums-all (lent .holds .kept) (x .s .u) (x .s .a) own mode loaded
+          (subst (λ (n : ℕ). SumsTo (tableAt (x .work .now)) (x .s .u) (x .s .a) (x .i) (x .m) (x .first) n (x .work .now) (l .loop .work)) all to),
     )
 
 pub put-sums-spec : {M : Type 1} → statement M
@@ -128,13 +112,21 @@ put-sums-spec =
     (tie.spec
     Inv-loop
     μ-loop
-    task-requires
-    modes-requires
-    index-requires
     loop-holds
-    add-up-requires
-    put-requires
-    add-m
+    held-back-requires
+    add-at
+    mul-at
+    add-at-2
+    mul-at-2
+    add-at-3
+    cast-work
+    mul-work
+    element-write-work
+    cast-work-2
+    add-work
+    mul-work-2
+    element-write-work-2
+    add-c
     loop-less
     loop-again
     returns)

@@ -1,111 +1,123 @@
--- `put_weights` meets its contract. The invariant: the tasks before k have their weights, and so has task number k for the
--- first m modes.
-use mathlib.Core.Path.{_≡_, subst, _∙_}
-use Prim.Native.Nat.{ℕ, _-_, _≤_, _<_}
+-- The loop has stored the weights of the first j tasks, and `load` is their sum. Assumes nothing.
+use mathlib.Core.Path.{_≡_, ap, _∙_, subst}
+use Prim.Native.Nat.{ℕ, _+_, _-_, _≤_, _<_}
 use native.Mathlib.Omega.{arith}
-use borrow.Author.Needs.{needs}
-use denote.Ref.{now}
-use Rattle.table.specs.Table.{modes as modesIn}
-use Rattle.image.specs.Row.{tableOf}
-use Rattle.sumpcandle.proofs.Weighing.{modes-few, WeightsTo, weights-none, weights-next, weights-all}
+use Rattle.table.specs.Limits.{transactionsMost, modesMost, tasksInAll}
+use Rattle.table.specs.Table.{Table}
+use Rattle.sumpcandle.specs.Work.{tableAt, Lent}
+use Rattle.sumpcandle.specs.Weight.{weight}
+use Rattle.sumpcandle.proofs.Ranges.{modes-few}
+use Rattle.sumpcandle.proofs.Filling.{lent-same}
+use Rattle.sumpcandle.proofs.Weighing.{small, WeightsTo, weights-none, load-room, weights-next, weights-all}
 use Rattle.sumpcandle.proofs.work.put_weights.Statement.{statement}
 use Rattle.sumpcandle.proofs.work.put_weights.Tie as tie
 
 abbrev Inv-loop : tie.InvT-loop
-Inv-loop table work₀ s k i j count m₀ work m = (m ≤ count) × WeightsTo (tableOf table) (s .u) (s .a) k i j m work₀ work
+Inv-loop work₀ s i m first count load₀ j₀ work load j =
+    (j ≤ count) × WeightsTo (tableAt work₀) (s .u) (s .a) i m first j load work₀ work
 
 abbrev μ-loop : tie.MeasureT-loop
-μ-loop table work₀ s k i j count m₀ work m = count - m
+μ-loop work₀ s i m first count load₀ j₀ work load j = count - j
 
--- at most 64 tasks, each with at most 8 modes
+-- the cells stored lie within the row
 
-small : (c : tie.Start Inv-loop μ-loop) → c .args .k < 64
-small c = omega (arith, c .pre .1 .1 .1 .0, c .pre .0 .kept .fewTasks)
-
-few : (c : tie.After-index Inv-loop μ-loop) → c .index .result ≤ 8
+few : (c : tie.In-loop Inv-loop μ-loop) → (c .before .before .args .first + c .before .loop .j < tasksInAll) × (c .before .before .args .m < modesMost)
 few c =
-    let x = c .before .before in
-    omega (arith, c .index .ensures, c .before .modes .ensures, modes-few (x .before .pre .0 .kept) (x .task .ensures .chosen .isTask .owner))
+    let (lent, (chosen, (own, (mode, done)))) = c .before .before .pre in
+    small (lent .holds .kept) own mode (c .loop-test .taken)
 
-task-requires : tie.Need-task-requires Inv-loop μ-loop
-task-requires c κs = (c .pre .0, c .pre .1 .1 .1 .0)
+inside : (s : tie.Start Inv-loop μ-loop) → (s .args .i < transactionsMost) × (s .args .m < modesMost)
+inside s =
+    let (lent, (chosen, (own, (mode, done)))) = s .pre in
+    let kept = lent .holds .kept in
+    (omega (arith, own .owner, kept .fewTransactions), omega (arith, modes-few kept (own .owner)))
 
-modes-requires : tie.Need-modes-requires Inv-loop μ-loop
-modes-requires c κs = search needs
-
-index-requires : tie.Need-index-requires Inv-loop μ-loop
-index-requires c κs = search needs
+-- the row of a turn
+present : (l : tie.At-loop Inv-loop μ-loop) → Lent (l .loop .work) × (tableAt (l .loop .work) ≡ tableAt (l .before .args .work .now))
+present l = lent-same (l .before .pre .0) (l .loop .work) (l .loop .inv .1 .same)
 
 loop-holds : tie.Need-loop-holds Inv-loop μ-loop
 loop-holds c =
-    let x = c .before .before .before in
-    let a = x .args in (
-      omega arith,
-      weights-none (a .s .u) (a .s .a) (c .before .before .task .result .u) (c .before .before .task .result .a) (now (a .work)) (a .k)
-          (x .pre .1 .1 .1 .1),
-    )
+    let (lent, (chosen, (own, (mode, done)))) = c .pre in
+    (omega arith, weights-none (lent .holds .kept) (c .args .s .u) (c .args .s .a) own mode done)
+
+add-weight : tie.Need-add-weight Inv-loop μ-loop
+add-weight c = omega (arith, few (c .before))
 
 weight-requires : tie.Need-weight-requires Inv-loop μ-loop
-weight-requires c κs = c .before .before .before .before .before .pre .1 .1 .0
+weight-requires c κs =
+    let l = c .before .before in
+    let (lent, (chosen, (own, (mode, done)))) = l .before .pre in
+    let (now, e) = present l in
+    (now .holds, rw e (chosen, (record { owner = own .owner; place = omega (arith, own .count, c .before .loop-test .taken) }, (mode, omega (arith, own .first)))))
 
 mul-work : tie.Need-mul-work Inv-loop μ-loop
-mul-work c = omega (arith, c .before .loop-test .taken, few (c .before .before .before))
+mul-work c = omega (arith, few (c .before .before))
 
 add-work : tie.Need-add-work Inv-loop μ-loop
-add-work c = omega (arith, c .before .loop-test .taken, few (c .before .before .before))
+add-work c = omega (arith, few (c .before .before))
 
 add-work-2 : tie.Need-add-work-2 Inv-loop μ-loop
-add-work-2 c =
-    let y = c .before .before .before in
-    omega (arith, c .before .loop-test .taken, few y, small (y .before .before .before))
+add-work-2 c = omega (arith, few (c .before .before))
+
+add-work-3 : tie.Need-add-work-3 Inv-loop μ-loop
+add-work-3 c = omega (arith, few (c .before .before))
 
 mul-work-2 : tie.Need-mul-work-2 Inv-loop μ-loop
-mul-work-2 c =
-    let y = c .before .before .before in
-    omega (arith, c .before .loop-test .taken, few y, small (y .before .before .before))
+mul-work-2 c = omega (arith, few (c .before .before))
 
 element-write-work : tie.Need-element-write-work Inv-loop μ-loop
-element-write-work c =
-    let y = c .before .before .before in
-    omega (arith, c .before .loop-test .taken, few y, small (y .before .before .before))
+element-write-work c = omega (arith, few (c .before .before))
 
-add-m : tie.Need-add-m Inv-loop μ-loop
-add-m c = omega (arith, c .before .loop-test .taken, few (c .before .before .before))
+add-load : tie.Need-add-load Inv-loop μ-loop
+add-load c =
+    let l = c .before .before .before in
+    let x = l .before .args in
+    let (lent, (chosen, (own, (mode, done)))) = l .before .pre in
+    let is = c .weight .ensures ∙ ap (λ (t : Table). weight t (x .s .u) (x .s .a) (x .i) (x .m) (l .loop .j)) (present l .1) in
+    omega (arith, is, l .loop .inv .1 .load, load-room (lent .holds .kept) (x .s .u) (x .s .a) own mode (c .before .before .loop-test .taken))
+
+add-j : tie.Need-add-j Inv-loop μ-loop
+add-j c = omega (arith, few (c .before .before))
 
 loop-less : tie.Need-loop-less Inv-loop μ-loop
-loop-less c = omega (arith, c .before .loop-test .taken)
+loop-less c = omega (arith, c .before .before .loop-test .taken)
 
 loop-again : tie.Need-loop-again Inv-loop μ-loop
 loop-again c =
-    let l = c .before .before in
-    let y = l .before in
-    let x = y .before .before in
-    let a = x .before .args in (
-      omega (arith, c .before .loop-test .taken),
-      weights-next (a .s .u) (a .s .a) (x .task .result .u) (x .task .result .a) (now (a .work)) (a .k) (l .loop .m)
-          (c .weight .result)
-          (l .loop .work)
-          (small (x .before))
-          (omega (arith, few y, c .before .loop-test .taken))
-          (l .loop .inv .1 .same .size ∙ x .before .pre .1 .0)
-          (c .weight .ensures)
-          (l .loop .inv .1),
+    let l = c .before .before .before in
+    let x = l .before .args in
+    let (lent, (chosen, (own, (mode, done)))) = l .before .pre in
+    let to = l .loop .inv .1 in
+    let is = c .weight .ensures ∙ ap (λ (t : Table). weight t (x .s .u) (x .s .a) (x .i) (x .m) (l .loop .j)) (present l .1) in (
+      omega (arith, c .before .before .loop-test .taken),
+      weights-next (lent .holds .kept) (x .s .u) (x .s .a) own mode (c .before .before .loop-test .taken) (to .same .size ∙ lent .holds .size) is to,
     )
+
+mul-work-3 : tie.Need-mul-work-3 Inv-loop μ-loop
+mul-work-3 c = omega (arith, inside (c .before .before))
+
+add-work-4 : tie.Need-add-work-4 Inv-loop μ-loop
+add-work-4 c = omega (arith, inside (c .before .before))
+
+add-work-5 : tie.Need-add-work-5 Inv-loop μ-loop
+add-work-5 c = omega (arith, inside (c .before .before))
+
+mul-work-4 : tie.Need-mul-work-4 Inv-loop μ-loop
+mul-work-4 c = omega (arith, inside (c .before .before))
+
+element-write-work-2 : tie.Need-element-write-work-2 Inv-loop μ-loop
+element-write-work-2 c = omega (arith, inside (c .before .before))
 
 returns : tie.Need-returns Inv-loop μ-loop
 returns c =
     let l = c .before in
-    let y = l .before in
-    let x = y .before .before in
-    let a = x .before .args in
-    let tab = tableOf (now (a .table)) in
-    let i = x .task .result .u in
-    let j = x .task .result .a in
-    let all : l .loop .m ≡ modesIn tab i = omega (arith, c .loop-test .left, l .loop .inv .0, y .index .ensures, y .before .modes .ensures) in (
-      weights-all (a .s .u) (a .s .a) i j (now (a .work)) (a .k) (l .loop .work) (x .task .ensures .chosen .isTask) (x .task .ensures .numbered)
-          (subst (λ (n : ℕ). WeightsTo tab (a .s .u) (a .s .a) (a .k) i j n (now (a .work)) (l .loop .work)) all (l .loop .inv .1)),
-      l .loop .inv .1 .same,
-    )
+    let x = l .before .args in
+    let (lent, (chosen, (own, (mode, done)))) = l .before .pre in
+    let (most, to) = l .loop .inv in
+    let all : l .loop .j ≡ x .count = omega (arith, c .loop-test .left) in
+    weights-all (lent .holds .kept) (x .s .u) (x .s .a) own mode (to .same .size ∙ lent .holds .size)
+    (subst (λ (n : ℕ). WeightsTo (tableAt (x .work .now)) (x .s .u) (x .s .a) (x .i) (x .m) (x .first) n (l .loop .load) (x .work .now) (l .loop .work)) all to)
 
 pub put-weights-spec : {M : Type 1} → statement M
 put-weights-spec =
@@ -113,17 +125,22 @@ put-weights-spec =
     (tie.spec
     Inv-loop
     μ-loop
-    task-requires
-    modes-requires
-    index-requires
     loop-holds
+    add-weight
     weight-requires
     mul-work
     add-work
     add-work-2
+    add-work-3
     mul-work-2
     element-write-work
-    add-m
+    add-load
+    add-j
     loop-less
     loop-again
+    mul-work-3
+    add-work-4
+    add-work-5
+    mul-work-4
+    element-write-work-2
     returns)
