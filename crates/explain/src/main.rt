@@ -1,10 +1,10 @@
 // The listing in words, for the table on standard input.
-use image::Answer;
-use image::Refusal;
-use image::Table;
 use input::Input;
 use libc::STDERR_FILENO;
 use libc::STDOUT_FILENO;
+use refusals::Answer;
+use refusals::Refusal;
+use row::Table;
 ghost use Prim.Native.Nat.{_<_, _^_};
 
 const BUDGET: u32 = 1_000_000;

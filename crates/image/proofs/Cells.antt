@@ -6,27 +6,19 @@ use native.Mathlib.Nat.{add-mul}
 use lib.ListN.{length, length-append}
 use lib.Seq.{sets}
 use Rattle.table.specs.Sum.{sum}
-use Rattle.image.specs.Said.{periodIn, modesIn, tasksIn, taskIn, transactionIn, tasksBefore}
-use Rattle.image.specs.Places.{taskWidth, start}
-use Rattle.image.specs.Row.{transactionCells, taskCells, ofTransaction, ofTask}
+use Rattle.format.specs.Said.{periodIn, modesIn, tasksIn, taskIn, transactionIn, tasksBefore}
+use Rattle.format.specs.Places.{taskWidth, start}
+use Rattle.row.specs.Row.{transactionCells, taskCells, ofTransaction, ofTask}
 use Rattle.image.specs.Fill.{tasksCells, headsIn, ofTasksIn, everyTaskIn}
-use Rattle.table.specs.Table.{Task, Transaction}
-use Rattle.image.specs.Lists.{joined}
-use Rattle.image.proofs.Lists.{length-listOf, length-joined, join-next}
+use Rattle.table.specs.Lists.{joined}
+use Rattle.table.proofs.Lists.{length-listOf, length-joined, join-next}
+use Rattle.row.proofs.Rows.{length-head, length-task}
 
 pub head-cells :
     (first : ℕ) (image : List ℕ) (p : ℕ)
     → ofTransaction first (transactionIn image p) ≡ periodIn image p ∷ modesIn image p ∷ first ∷ tasksIn image p ∷ []
 unfolding ofTransaction transactionIn
 head-cells first image p = rw (length-listOf (tasksIn image p))
-
-pub length-head : (first : ℕ) (x : Transaction) → length (ofTransaction first x) ≡ transactionCells
-unfolding ofTransaction
-length-head first x = refl
-
-pub length-task : (u : ℕ) (t : Task) → length (ofTask u t) ≡ taskCells
-unfolding ofTask
-length-task u t = rw (length-listOf)
 
 -- each group is as long as its cells are many
 

@@ -7,13 +7,14 @@ use lib.ListN.{getD}
 use Rattle.table.specs.Table.{Table, transactions, IsTask}
 use Rattle.table.specs.Number.{inAll, number}
 use Rattle.table.specs.Kept.{Kept}
-use Rattle.image.specs.Lists.{padded}
-use Rattle.image.specs.Said.{tableIn}
-use Rattle.image.specs.Row.{taskCell, rowOf, emptyRow, tableOf, bodyCell}
-use Rattle.image.specs.Read.{IsAccepted, Decoded}
-use Rattle.image.proofs.Kept.{kept}
-use Rattle.image.proofs.Held.{held-transactions, head-there, body-there}
-use Rattle.image.proofs.Rows.{row-holds, row-in-all, row-first, row-owner}
+use Rattle.table.specs.Lists.{padded}
+use Rattle.format.specs.Said.{tableIn}
+use Rattle.row.specs.Row.{taskCell, rowOf, emptyRow, tableOf, bodyCell}
+use Rattle.format.specs.Fault.{IsAccepted}
+use Rattle.image.specs.Read.{Decoded}
+use Rattle.format.proofs.Kept.{kept}
+use Rattle.row.proofs.Held.{held-transactions, head-there, body-there}
+use Rattle.row.proofs.Rows.{row-holds, row-in-all, row-first, row-owner}
 
 -- the row of any table that keeps its bounds
 pub row-decoded : (tab : Table) → Kept tab → Decoded (rowOf tab)

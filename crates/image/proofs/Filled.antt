@@ -7,16 +7,16 @@ use lib.ListN.{length}
 use lib.Seq.{sets}
 use Rattle.table.specs.Table.{Table, transactions, transaction, tasks, task}
 use Rattle.table.specs.Number.{before}
-use Rattle.image.specs.Lists.{joined, padded}
-use Rattle.image.specs.Places.{start}
-use Rattle.image.specs.Said.{editionIn, frameIn, countIn, tasksIn, tableIn, tasksBefore}
-use Rattle.image.specs.Row.{headerCells, tasksCell, rowCells, ofTransaction, ofTask, ofHeader, rowOf, emptyRow}
+use Rattle.table.specs.Lists.{joined, padded}
+use Rattle.format.specs.Places.{start}
+use Rattle.format.specs.Said.{editionIn, frameIn, countIn, tasksIn, tableIn, tasksBefore}
+use Rattle.row.specs.Row.{headerCells, tasksCell, rowCells, ofTransaction, ofTask, ofHeader, rowOf, emptyRow}
 use Rattle.image.specs.Fill.{tasksCells, headsIn, ofTasksIn, everyTaskIn}
-use Rattle.image.specs.Read.{IsAccepted}
-use Rattle.image.proofs.Lists.{joined-same, length-padded, padded-again, sets-padded}
-use Rattle.image.proofs.Accepted.{header, few-tasks}
+use Rattle.format.specs.Fault.{IsAccepted}
+use Rattle.table.proofs.Lists.{joined-same, length-padded, padded-again, sets-padded}
+use Rattle.format.proofs.Accepted.{header, few-tasks}
 use Rattle.image.proofs.Cells.{length-heads, length-every}
-use Rattle.image.proofs.Said.{said-edition, said-frame, said-transactions, said-transaction, said-tasks, said-task, said-before, said-in-all}
+use Rattle.format.proofs.Said.{said-edition, said-frame, said-transactions, said-transaction, said-tasks, said-task, said-before, said-in-all}
 
 -- a header of zeros
 abbrev blank : List ℕ

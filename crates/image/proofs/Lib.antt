@@ -1,13 +1,3 @@
-pub mod Findings
-pub mod Lists
 pub mod Cells
-pub mod Places
-pub mod Accepted
-pub mod Said
 pub mod Filled
-pub mod Kept
-pub mod Held
-pub mod Rows
 pub mod Decoded
-pub mod Reach
-pub mod Cases

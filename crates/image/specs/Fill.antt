@@ -1,10 +1,10 @@
 -- The cells of an image's transactions and tasks, by their places in the image: what the fill writes, group by group.
 use mathlib.Core.List.{List}
 use Prim.Native.Nat.{ℕ, _+_, _*_}
-use Rattle.image.specs.Lists.{joined}
-use Rattle.image.specs.Places.{headWidth, taskWidth, start}
-use Rattle.image.specs.Said.{modesIn, tasksIn, taskIn, transactionIn, tasksBefore}
-use Rattle.image.specs.Row.{ofTransaction, ofTask}
+use Rattle.table.specs.Lists.{joined}
+use Rattle.format.specs.Places.{headWidth, taskWidth, start}
+use Rattle.format.specs.Said.{modesIn, tasksIn, taskIn, transactionIn, tasksBefore}
+use Rattle.row.specs.Row.{ofTransaction, ofTask}
 
 -- n tasks of transaction u, of m modes each, the first at q
 unfoldable pub tasksCells : List ℕ → ℕ → ℕ → ℕ → ℕ → List ℕ

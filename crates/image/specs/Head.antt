@@ -3,10 +3,10 @@ use mathlib.Core.List.{List}
 use Prim.Native.Nat.{ℕ}
 use Rattle.bits.specs.Bits.{valueAt}
 use Rattle.table.specs.Limits.{offsetWidth, jitterWidth, blockingWidth, priorityWidth}
-use Rattle.image.specs.declared.kinds.Transaction.{Transaction}
-use Rattle.image.specs.declared.kinds.Task.{Task}
-use Rattle.image.specs.Places.{jitterAt, blockingAt, priorityAt}
-use Rattle.image.specs.Said.{periodIn, modesIn, tasksIn, deadlineIn}
+use Rattle.row.specs.declared.kinds.Transaction.{Transaction}
+use Rattle.row.specs.declared.kinds.Task.{Task}
+use Rattle.format.specs.Places.{jitterAt, blockingAt, priorityAt}
+use Rattle.format.specs.Said.{periodIn, modesIn, tasksIn, deadlineIn}
 
 abbrev pub headAt : List ℕ → ℕ → Transaction
 headAt image p = record { period = periodIn image p; modes = modesIn image p; tasks = tasksIn image p }

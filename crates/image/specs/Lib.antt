@@ -1,9 +1,3 @@
-pub mod Answer
-pub mod Places
-pub mod Lists
-pub mod Said
 pub mod Head
-pub mod Fault
-pub mod Row
 pub mod Fill
 pub mod Read

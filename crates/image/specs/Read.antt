@@ -7,15 +7,11 @@ use Rattle.table.specs.Table.{transactions, IsTask}
 use Rattle.table.specs.Number
 use Rattle.table.specs.Number.{before, number}
 use Rattle.table.specs.Kept.{Kept}
-use Rattle.image.specs.declared.answer.Answer.{Answer}
-use Rattle.image.specs.declared.answer.Answer.the-variants.{Accepted, Refused}
-use Rattle.image.specs.Said.{tableIn}
-use Rattle.image.specs.Fault.{imageFault}
-use Rattle.image.specs.Row.{inAllCell, transactionCell, firstCell, taskCell, ownerCell, rowOf, emptyRow, tableOf}
-
--- the image is accepted
-abbrev pub IsAccepted : List ℕ → Type 0
-IsAccepted image = imageFault image ≡ Accepted
+use Rattle.refusals.specs.declared.Answer.{Answer}
+use Rattle.refusals.specs.declared.Answer.the-variants.{Accepted, Refused}
+use Rattle.format.specs.Said.{tableIn}
+use Rattle.format.specs.Fault.{imageFault}
+use Rattle.row.specs.Row.{inAllCell, transactionCell, firstCell, taskCell, ownerCell, rowOf, emptyRow, tableOf}
 
 abbrev pub rowFor : Answer → List ℕ → List ℕ
 rowFor Accepted image = rowOf (tableIn image)

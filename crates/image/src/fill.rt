@@ -1,19 +1,21 @@
 // The row of an accepted image: a fill that cannot fail, into a lent row that is all 0.
-use super::kinds::Table;
-use super::kinds::Task;
-use super::kinds::Transaction;
+use super::parts::body_at;
+use super::parts::head_at;
 use super::scan::end_of;
+use row::Table;
+use row::Task;
+use row::Transaction;
 ghost use mathlib.Core.Path.{_≡_};
 ghost use Prim.Native.Nat.{_+_, _*_, _^_, _<_, _≤_};
 ghost use lib.ListN.{getD};
 ghost use lib.Seq.{sets};
 ghost use Rattle.bits.specs.Bits.{valueAt};
 ghost use Rattle.table.specs.Limits.{timeWidth, modesMost};
-ghost use Rattle.image.specs.Lists.{listOf};
-ghost use Rattle.image.specs.Said.{countIn, taskIn, transactionIn, tableIn, tasksBefore};
-ghost use Rattle.image.specs.Row.{headerCells, transactionCells, taskCells, tasksCell, rowCells, ofTransaction, ofTask, rowOf, emptyRow};
+ghost use Rattle.table.specs.Lists.{listOf};
+ghost use Rattle.format.specs.Said.{countIn, taskIn, transactionIn, tableIn, tasksBefore};
+ghost use Rattle.row.specs.Row.{headerCells, transactionCells, taskCells, tasksCell, rowCells, ofTransaction, ofTask, rowOf, emptyRow};
 ghost use Rattle.image.specs.Fill.{tasksCells, headsIn, everyTaskIn};
-ghost use Rattle.image.specs.Read.{IsAccepted};
+ghost use Rattle.format.specs.Fault.{IsAccepted};
 
 // The time of one of the modes that there may be, where the times of the first `modes` start at a bit position.
 fn time(image: &[u8], modes: usize, at: usize, m: usize) -> u32
@@ -53,7 +55,7 @@ fn put_task(
     requires { ⌜ cell + taskCells ≤ rowCells ⌝ }
     ensures { λ _. ⌜ now (cells .exit) ≡ sets (now (cells .entry)) cell (ofTask owner (taskIn (now (image .entry)) modes at)) ⌝ }
 {
-    let held = Task::at(image, at);
+    let held = body_at(image, at);
     cells[cell + Task::OFFSET_CELL] = held.offset;
     cells[cell + Task::JITTER_CELL] = held.jitter;
     cells[cell + Task::BLOCKING_CELL] = held.blocking;
@@ -75,7 +77,7 @@ fn put_head(image: &[u8], at: usize, first: u32, cells: &mut [u32; Table::CELLS]
     requires { ⌜ cell + transactionCells ≤ rowCells ⌝ }
     ensures { λ _. ⌜ now (cells .exit) ≡ sets (now (cells .entry)) cell (ofTransaction first (transactionIn (now (image .entry)) at)) ⌝ }
 {
-    let held = Transaction::at(image, at);
+    let held = head_at(image, at);
     let modes = held.modes as u32;
     let tasks = held.tasks as u32;
     cells[cell + Transaction::PERIOD_CELL] = held.period;
@@ -132,7 +134,7 @@ fn put_heads(image: &[u8], cells: &mut [u32; Table::CELLS]) -> u32
             cells,
             Table::HEADER_CELLS + u * Transaction::CELLS,
         );
-        let held = Transaction::at(image, at);
+        let held = head_at(image, at);
         before += held.tasks as u32;
         at = end_of(image, at);
         u += 1;
@@ -149,7 +151,7 @@ fn put_every_task(image: &[u8], cells: &mut [u32; Table::CELLS])
     let mut at = Table::FIRST_AT;
     let mut u: usize = 0;
     while u < count {
-        let held = Transaction::at(image, at);
+        let held = head_at(image, at);
         let owner = u as u32;
         put_tasks(
             image,

@@ -1,20 +1,14 @@
 // Reading an image: any bytes give a table or a refusal, by document 01's number and place. It knows bits, places and
 // the limits of a table; it knows nothing of interference, of bounds or of what a table is read for.
+use refusals::Answer;
+use row::Table;
 ghost use mathlib.Core.Path.{_≡_};
-ghost use Rattle.image.specs.Fault.{imageFault};
+ghost use Rattle.format.specs.Fault.{imageFault};
 ghost use Rattle.image.specs.Read.{rowFor};
 
-mod answer;
 mod fill;
-mod kinds;
+mod parts;
 mod scan;
-mod view;
-
-pub use answer::Answer;
-pub use answer::Refusal;
-pub use kinds::Table;
-pub use kinds::Task;
-pub use kinds::Transaction;
 
 // What is said of an image, and beside it the table: the empty one where the image is refused.
 pub struct Reading {

@@ -1,21 +1,23 @@
 // The first fault of an image, front to back. Reading a field is total, so each check reads its field whether the image
 // holds it or not: that it does is a check of its own that stands before, and what is read past a fault cannot show.
-use super::answer::Answer;
-use super::answer::Refusal;
-use super::answer::check;
-use super::kinds::Table;
-use super::kinds::Task;
-use super::kinds::Transaction;
+use super::parts::body_at;
+use super::parts::head_at;
+use refusals::Answer;
+use refusals::Refusal;
+use refusals::check;
+use row::Table;
+use row::Task;
+use row::Transaction;
 ghost use mathlib.Core.Path.{_≡_};
 ghost use mathlib.Core.Bool.{_&&_};
 ghost use Prim.Native.Nat.{_+_, _*_, _^_, _<_, _≤_};
 ghost use lib.Dec.{leb};
 ghost use Rattle.table.specs.Sum.{sum};
 ghost use Rattle.table.specs.Limits.{timeWidth, tasksMost, tasksInAll};
-ghost use Rattle.image.specs.Answer.{firstOf};
+ghost use Rattle.refusals.specs.Answer.{firstOf};
 ghost use Rattle.bits.specs.Bits.{valueAt};
-ghost use Rattle.image.specs.Places.{taskWidth, past};
-ghost use Rattle.image.specs.Fault.{endsAt, isBetween, isDivisor, headerFault, taskFault, headFault, transactionFault, endFault, bodyFault, imageFault};
+ghost use Rattle.format.specs.Places.{taskWidth, past};
+ghost use Rattle.format.specs.Fault.{endsAt, isBetween, isDivisor, headerFault, taskFault, headFault, transactionFault, endFault, bodyFault, imageFault};
 
 // The image ends inside a field.
 fn ends(image: &[u8], at: usize, width: usize) -> Answer
@@ -116,7 +118,7 @@ fn task(image: &[u8], modes: usize, at: usize) -> Answer
     let deadline = at + Task::DEADLINE_AT;
     let priority = at + Task::PRIORITY_AT;
     let times = at + Task::TIMES_AT;
-    let held = Task::at(image, at);
+    let held = body_at(image, at);
     ends(image, at, Task::OFFSET_WIDTH).then(ends(image, jitter, Task::JITTER_WIDTH))
         .then(ends(image, blocking, Task::BLOCKING_WIDTH))
         .then(ends(image, deadline, Task::DEADLINE_WIDTH))
@@ -160,7 +162,7 @@ fn head(image: &[u8], before: usize, at: usize) -> Answer
     let modes = at + Transaction::MODES_AT;
     let tasks = at + Transaction::TASKS_AT;
     let frame = bits::value(image, Table::FRAME_AT, Table::FRAME_WIDTH);
-    let held = Transaction::at(image, at);
+    let held = head_at(image, at);
     ends(image, at, Transaction::PERIOD_WIDTH).then(check(
             divides(frame, held.period),
             Refusal::PeriodUnfit,
@@ -184,7 +186,7 @@ fn transaction(image: &[u8], before: usize, at: usize) -> Answer
     let found = head(image, before, at);
     let sound = found.is_accepted();
     if sound {
-        let held = Transaction::at(image, at);
+        let held = head_at(image, at);
         tasks(image, held.modes, held.tasks, at + Transaction::WIDTH)
     } else {
         found
@@ -196,7 +198,7 @@ pub(crate) fn end_of(image: &[u8], at: usize) -> usize
     requires { ⌜ at < 2 ^ 32 ⌝ }
     ensures { λ r. ⌜ r ≡ past (now (image .entry)) at ⌝ }
 {
-    let held = Transaction::at(image, at);
+    let held = head_at(image, at);
     at + Transaction::WIDTH + held.tasks * (Task::TIMES_AT + held.modes * Task::TIME_WIDTH)
 }
 
@@ -231,7 +233,7 @@ fn transactions(image: &[u8]) -> Answer
         } else {
             return found;
         }
-        let held = Transaction::at(image, at);
+        let held = head_at(image, at);
         before += held.tasks;
         at = end_of(image, at);
         u += 1;

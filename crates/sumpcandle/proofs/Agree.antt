@@ -11,15 +11,15 @@ use Rattle.table.specs.Table.{Table, IsTask}
 use Rattle.table.specs.Number.{inAll, number}
 use Rattle.table.specs.Kept.{Kept}
 use Rattle.table.proofs.Number.{place, number-lt}
-use Rattle.image.specs.declared.answer.Refusal.{Refusal}
-use Rattle.image.specs.declared.answer.Answer.the-variants.{Refused}
-use Rattle.image.specs.Answer.{refusalNumber}
-use Rattle.image.specs.Fault.{imageFault}
-use Rattle.image.specs.Lists.{joined}
-use Rattle.image.specs.Read.{IsAccepted}
-use Rattle.image.specs.Said.{tableIn}
-use Rattle.image.proofs.Lists.{joined-same}
-use Rattle.image.proofs.Kept.{kept}
+use Rattle.refusals.specs.declared.Refusal.{Refusal}
+use Rattle.refusals.specs.declared.Answer.the-variants.{Refused}
+use Rattle.refusals.specs.Answer.{refusalNumber}
+use Rattle.format.specs.Fault.{imageFault}
+use Rattle.table.specs.Lists.{joined}
+use Rattle.format.specs.Fault.{IsAccepted}
+use Rattle.format.specs.Said.{tableIn}
+use Rattle.table.proofs.Lists.{joined-same}
+use Rattle.format.proofs.Kept.{kept}
 use Rattle.analysis.specs.Answer.{Cells}
 use Rattle.sumpcandle.specs.declared.Filled.{Filled}
 use Rattle.sumpcandle.specs.declared.Filled.the-variants as filled

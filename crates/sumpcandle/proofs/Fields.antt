@@ -21,7 +21,7 @@ use Rattle.table.specs.Table.{
 }
 use Rattle.table.specs.Number.{before, inAll, number}
 use Rattle.table.proofs.Number.{place, number-lt}
-use Rattle.image.specs.Row.{
+use Rattle.row.specs.Row.{
   inAllCell,
   transactionCell,
   transactionCells,
@@ -45,7 +45,7 @@ use Rattle.image.specs.Row.{
   bodyCell,
 }
 use Rattle.image.specs.Read.{Decoded}
-use Rattle.image.proofs.Held.{
+use Rattle.row.proofs.Held.{
   held-transactions,
   head-there,
   held-period,

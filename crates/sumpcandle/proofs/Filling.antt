@@ -12,10 +12,10 @@ use Rattle.table.specs.Limits.{tasksMost, tasksInAll}
 use Rattle.table.specs.Number.{before, inAll, number}
 use Rattle.table.specs.Kept.{Kept}
 use Rattle.table.proofs.Number.{place, number-lt, number-unique}
-use Rattle.image.specs.Row.{inAllCell, firstCell, taskCell, ownerCell, rowCells, rowOf, tableOf, headCell}
+use Rattle.row.specs.Row.{inAllCell, firstCell, taskCell, ownerCell, rowCells, rowOf, tableOf, headCell}
 use Rattle.image.specs.Read.{Decoded}
-use Rattle.image.proofs.Held.{head-there}
-use Rattle.image.proofs.Rows.{row-size}
+use Rattle.row.proofs.Held.{head-there}
+use Rattle.row.proofs.Rows.{row-size}
 use Rattle.image.proofs.Decoded.{row-decoded}
 use Rattle.analysis.specs.Charge.{phaseOf, heldOf}
 use Rattle.sumpcandle.specs.Work.{phasesCell, heldCell, weightsCell, workCells, tableAt, Lent}

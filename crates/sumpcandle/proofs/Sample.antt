@@ -11,13 +11,13 @@ use Rattle.table.specs.Table.{Table, IsTask, deadline}
 use Rattle.table.specs.Number.{number}
 use Rattle.table.specs.Kept.{Kept}
 use Rattle.table.specs.Sample.{S}
-use Rattle.image.specs.declared.answer.Answer.the-variants.{Refused}
-use Rattle.image.specs.declared.answer.Refusal.the-variants.{EndsInside}
-use Rattle.image.specs.Answer.{_then_, firstOf, checked}
-use Rattle.image.specs.Lists.{listOf, joined}
-use Rattle.image.specs.Places.{past, start}
-use Rattle.image.specs.Said.{taskIn, transactionIn, tableIn, tasksBefore}
-use Rattle.image.specs.Fault.{
+use Rattle.refusals.specs.declared.Answer.the-variants.{Refused}
+use Rattle.refusals.specs.declared.Refusal.the-variants.{EndsInside}
+use Rattle.refusals.specs.Answer.{_then_, firstOf, checked}
+use Rattle.table.specs.Lists.{listOf, joined}
+use Rattle.format.specs.Places.{past, start}
+use Rattle.format.specs.Said.{taskIn, transactionIn, tableIn, tasksBefore}
+use Rattle.format.specs.Fault.{
   headerFault,
   taskFault,
   headFault,
@@ -26,8 +26,8 @@ use Rattle.image.specs.Fault.{
   bodyFault,
   imageFault,
 }
-use Rattle.image.specs.Read.{IsAccepted}
-use Rattle.image.proofs.Kept.{kept}
+use Rattle.format.specs.Fault.{IsAccepted}
+use Rattle.format.proofs.Kept.{kept}
 use Rattle.periods.specs.Charge.{imposed}
 use Rattle.analysis.specs.Answer.{Answer, bound, Cells, cells}
 use Rattle.analysis.specs.Walk.{answer}

@@ -11,17 +11,18 @@ use Rattle.table.specs.Table.{Table, IsTask, deadline}
 use Rattle.table.specs.Number.{inAll, number}
 use Rattle.table.specs.Kept.{Kept}
 use Rattle.table.proofs.Number.{number-lt, number-unique}
-use Rattle.image.specs.declared.answer.Refusal.{Refusal}
-use Rattle.image.specs.declared.answer.Answer.{Answer}
-use Rattle.image.specs.declared.answer.Answer.the-variants.{Refused}
-use Rattle.image.specs.Answer.{answerPlace}
-use Rattle.image.specs.Fault.{imageFault}
-use Rattle.image.specs.Said.{tableIn}
-use Rattle.image.specs.Row.{rowOf, tableOf}
-use Rattle.image.specs.Read.{IsAccepted, rowFor}
-use Rattle.image.proofs.Kept.{kept}
+use Rattle.refusals.specs.declared.Refusal.{Refusal}
+use Rattle.refusals.specs.declared.Answer.{Answer}
+use Rattle.refusals.specs.declared.Answer.the-variants.{Refused}
+use Rattle.refusals.specs.Answer.{answerPlace}
+use Rattle.format.specs.Fault.{imageFault}
+use Rattle.format.specs.Said.{tableIn}
+use Rattle.row.specs.Row.{rowOf, tableOf}
+use Rattle.format.specs.Fault.{IsAccepted}
+use Rattle.image.specs.Read.{rowFor}
+use Rattle.format.proofs.Kept.{kept}
 use Rattle.image.proofs.Decoded.{image-row-holds}
-use Rattle.image.proofs.Reach.{furthest}
+use Rattle.format.proofs.Reach.{furthest}
 use Rattle.periods.specs.Charge.{imposed}
 use Rattle.analysis.specs.Answer as definition
 use Rattle.analysis.specs.Answer.{Cells, cells, Answers}

@@ -8,7 +8,7 @@ use Rattle.table.specs.Table.{Table, IsTask, transactions, tasks, modes}
 use Rattle.table.specs.Limits.{modesMost, tasksMost, tasksInAll}
 use Rattle.table.specs.Number.{before, number}
 use Rattle.table.specs.Kept.{Kept}
-use Rattle.image.specs.Row.{rowOf, tableOf}
+use Rattle.row.specs.Row.{rowOf, tableOf}
 use Rattle.analysis.specs.Charge.{phaseOf, heldOf}
 use Rattle.sumpcandle.specs.declared.charges.Subject.{Subject}
 use Rattle.sumpcandle.specs.Work.{phasesCell, heldCell, weightsCell, loadsCell, sumsCell, rowsCell, othersCell, Chosen}

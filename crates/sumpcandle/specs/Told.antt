@@ -5,12 +5,12 @@ use Prim.Native.Nat.{ℕ, _+_, _*_, _^_, _≤_, _<_}
 use lib.ListN.{length, getD}
 use Rattle.table.specs.Table.{Table, IsTask, deadline}
 use Rattle.table.specs.Number.{inAll, number}
-use Rattle.image.specs.declared.answer.Refusal.{Refusal}
-use Rattle.image.specs.declared.answer.Answer.the-variants.{Refused}
-use Rattle.image.specs.Answer.{refusalNumber}
-use Rattle.image.specs.Fault.{imageFault}
-use Rattle.image.specs.Read.{IsAccepted}
-use Rattle.image.specs.Said.{tableIn}
+use Rattle.refusals.specs.declared.Refusal.{Refusal}
+use Rattle.refusals.specs.declared.Answer.the-variants.{Refused}
+use Rattle.refusals.specs.Answer.{refusalNumber}
+use Rattle.format.specs.Fault.{imageFault}
+use Rattle.format.specs.Fault.{IsAccepted}
+use Rattle.format.specs.Said.{tableIn}
 use Rattle.analysis.specs.Answer.{Answer, bound, Cells, cells, Answers}
 use Rattle.analysis.specs.Promise.{Safe, Tight}
 use Rattle.sumpcandle.specs.declared.Filled.{Filled}

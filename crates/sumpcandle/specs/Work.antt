@@ -9,7 +9,7 @@ use Rattle.table.specs.Table.{Table, IsTask, transactions, modes, priority}
 use Rattle.table.specs.Limits.{transactionsMost, modesMost, tasksMost, tasksInAll}
 use Rattle.table.specs.Number.{number}
 use Rattle.table.specs.Kept.{Kept}
-use Rattle.image.specs.Row.{rowCells, rowOf, tableOf}
+use Rattle.row.specs.Row.{rowCells, rowOf, tableOf}
 use Rattle.analysis.specs.Charge.{phaseOf, heldOf}
 use Rattle.sumpcandle.specs.declared.charges.Subject.{Subject}
 use Rattle.sumpcandle.specs.Weight.{weight, weights, heldBack}

@@ -5,8 +5,8 @@ use super::charges::Subject;
 use super::layout::Work;
 use super::quantity::JobNumber;
 use super::quantity::Ticks;
-use super::row;
-use image::Table;
+use super::reads;
+use row::Table;
 ghost use mathlib.Core.Path.{_≡_};
 ghost use lib.IntN.{pos, _+ℤ_, _-ℤ_};
 ghost use Prim.Native.Nat.{_+_, _*_, _-_, _<_, _≤_, _^_};
@@ -57,10 +57,10 @@ pub(crate) fn turn_of(row: &[u32; Work::CELLS], s: Subject, m: usize, c: usize) 
     Turn {
         mode: m,
         candidate: c,
-        period: Ticks(row::period(row, s.u)),
-        offset: Ticks(row::offset(row, s.u, s.a)),
-        blocking: Ticks(row::blocking(row, s.u, s.a)),
-        time: Ticks(row::time(row, s.u, m, s.a)),
+        period: Ticks(reads::period(row, s.u)),
+        offset: Ticks(reads::offset(row, s.u, s.a)),
+        blocking: Ticks(reads::blocking(row, s.u, s.a)),
+        time: Ticks(reads::time(row, s.u, m, s.a)),
         phase: Ticks(charges::phase_of(row, s.u, c, s.a)),
         first: first_job(charges::held_of(row, s.u, c, s.a)),
     }
@@ -152,7 +152,7 @@ pub(crate) fn busy_chain(
     requires { ⌜ used ≤ budget ⌝ }
     ensures { λ r. ⌜ r ≡ stopped budget (chain (busy (tableAt (now (row .entry))) (s .u) (s .a) (x .mode) (x .candidate)) beyond? (budget - used) 1) ⌝ }
 {
-    let horizon = row::wide(Table::horizon());
+    let horizon = reads::wide(Table::horizon());
     let mut made = used;
     let mut t: u64 = 1;
     while made < budget {

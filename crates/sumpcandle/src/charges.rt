@@ -3,9 +3,9 @@
 // is split by the period once for each transaction. What lies below `rivals` may become faster; its contract stays.
 use super::layout::Work;
 use super::quantity::Ticks;
-use super::row;
-use image::Table;
-use image::Transaction;
+use super::reads;
+use row::Table;
+use row::Transaction;
 ghost use mathlib.Core.Path.{_≡_};
 ghost use Prim.Native.Nat.{_+_, _*_, _<_, _≤_, _^_, _-_, min, max};
 ghost use Rattle.table.specs.Limits.{tasksMost, tasksInAll};
@@ -33,7 +33,7 @@ fn place(row: &[u32; Work::CELLS], i: usize, c: usize, j: usize) -> usize
     ensures place { λ r. ⌜ r ≡ tasksMost * number (tableAt (now (row .entry))) i c + j ⌝ }
     ensures within { λ r. ⌜ r < tasksInAll * tasksMost ⌝ }
 {
-    Transaction::TASKS * (row::before(row, i) + c) + j
+    Transaction::TASKS * (reads::before(row, i) + c) + j
 }
 
 // Phase of task j when candidate c sets the critical instant.
@@ -43,7 +43,7 @@ pub(crate) fn phase_of(row: &[u32; Work::CELLS], i: usize, c: usize, j: usize) -
     requires { ⌜ IsTask (tableAt (now row)) i j ⌝ }
     ensures { λ r. ⌜ r ≡ phaseOf (tableAt (now (row .entry))) i c j ⌝ }
 {
-    row::wide(row[Work::PHASES + place(row, i, c, j)])
+    reads::wide(row[Work::PHASES + place(row, i, c, j)])
 }
 
 // Jobs of task j held back to the instant.
@@ -53,7 +53,7 @@ pub(crate) fn held_of(row: &[u32; Work::CELLS], i: usize, c: usize, j: usize) ->
     requires { ⌜ IsTask (tableAt (now row)) i j ⌝ }
     ensures { λ r. ⌜ r ≡ heldOf (tableAt (now (row .entry))) i c j ⌝ }
 {
-    row::wide(row[Work::HELD + place(row, i, c, j)])
+    reads::wide(row[Work::HELD + place(row, i, c, j)])
 }
 
 pub(crate) fn greater(x: u64, y: u64) -> u64
@@ -89,14 +89,14 @@ fn split_of(row: &[u32; Work::CELLS], i: usize, t: Ticks) -> Split
     requires { ⌜ t .0 ≤ longest ⌝ }
     ensures { λ r. ⌜ IsSplitAt (tableAt (now (row .entry))) i (t .0) r ⌝ }
 {
-    let period = row::period(row, i) as u32;
+    let period = reads::period(row, i) as u32;
     let at = t.0 as u32;
     Split {
-        first: row::before(row, i),
-        count: row::tasks(row, i),
+        first: reads::before(row, i),
+        count: reads::tasks(row, i),
         period,
         rest: at % period,
-        periods: row::wide(at / period),
+        periods: reads::wide(at / period),
     }
 }
 
@@ -193,7 +193,7 @@ fn held_back(row: &[u32; Work::CELLS], s: Subject, i: usize, m: usize, c: usize,
     ensures { λ r. ⌜ r ≡ heldBack (tableAt (now (row .entry))) (s .u) (s .a) i m c ⌝ }
 {
     let at = Work::SUMS + 2 * (Transaction::MODES * (x.first + c) + m);
-    row::wide(row[at]) + row::wide(row[at + 1]) * 4_294_967_296
+    reads::wide(row[at]) + reads::wide(row[at + 1]) * 4_294_967_296
 }
 
 // The weights of transaction i in mode m.
@@ -204,7 +204,7 @@ pub(crate) fn load(row: &[u32; Work::CELLS], s: Subject, i: usize, m: usize) -> 
     requires { ⌜ m < modes (tableAt (now row)) i ⌝ }
     ensures { λ r. ⌜ r ≡ weights (tableAt (now (row .entry))) (s .u) (s .a) i m ⌝ }
 {
-    row::wide(row[Work::LOADS + Transaction::MODES * i + m])
+    reads::wide(row[Work::LOADS + Transaction::MODES * i + m])
 }
 
 fn whole_periods(whole: bool, periods: u64) -> u64
@@ -234,7 +234,7 @@ fn charge(
     ensures { λ r. ⌜ r .0 ≡ charge (laterOf whole) (tableAt (now (row .entry))) (s .u) (s .a) i m c (moment x) ⌝ }
 {
     let passed = whole_periods(whole, x.periods) * load(row, s, i, m);
-    let rest = row::wide(rests(row, s, whole, i, m, c, x));
+    let rest = reads::wide(rests(row, s, whole, i, m, c, x));
     Ticks(held_back(row, s, i, m, c, x) + passed + rest)
 }
 
@@ -257,7 +257,7 @@ fn few_charge(
     ensures { λ r. ⌜ r .0 ≡ charge (laterOf whole) (tableAt (now (row .entry))) (s .u) (s .a) i m c (moment x) ⌝ }
 {
     let passed = whole_periods(whole, x.periods) * load(row, s, i, m);
-    let rest = row::wide(few_rests(row, s, whole, i, m, c, x));
+    let rest = reads::wide(few_rests(row, s, whole, i, m, c, x));
     Ticks(held_back(row, s, i, m, c, x) + passed + rest)
 }
 
@@ -313,12 +313,12 @@ fn greatest(row: &[u32; Work::CELLS], s: Subject, whole: bool, i: usize, t: Tick
     let x = split_of(row, i, t);
     let end = Transaction::MODES * (x.first + x.count);
     let mut best: u64 = 0;
-    let mut z = row::index(row[Work::ROWS + Transaction::MODES * x.first]);
+    let mut z = reads::index(row[Work::ROWS + Transaction::MODES * x.first]);
     while z < end {
         let m = z % Transaction::MODES;
         let c = z / Transaction::MODES - x.first;
         best = row_charge(row, s, whole, i, m, c, x, best);
-        z = row::index(row[Work::ROWS + (z + 1)]);
+        z = reads::index(row[Work::ROWS + (z + 1)]);
     }
     Ticks(best)
 }
@@ -339,12 +339,12 @@ pub(crate) fn rivals(
     requires { ⌜ t .0 ≤ longest ⌝ }
     ensures { λ r. ⌜ r .0 ≡ rivals (laterOf whole) (tableAt (now (row .entry))) (s .u) (s .a) m c (t .0) ⌝ }
 {
-    let count = row::transactions(row);
+    let count = reads::transactions(row);
     let mut sum: u64 = 0;
-    let mut i = row::index(row[Work::OTHERS]);
+    let mut i = reads::index(row[Work::OTHERS]);
     while i < count {
         sum += greatest(row, s, whole, i, t).0;
-        i = row::index(row[Work::OTHERS + (i + 1)]);
+        i = reads::index(row[Work::OTHERS + (i + 1)]);
     }
     let own = split_of(row, s.u, t);
     Ticks(charge(row, s, whole, s.u, m, c, own).0 + sum)

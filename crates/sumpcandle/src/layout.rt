@@ -1,6 +1,6 @@
 // The working row: the table's row, and behind it what is worked out of it once, so that an evaluation reads it.
-use image::Table;
-use image::Transaction;
+use row::Table;
+use row::Transaction;
 
 pub(crate) struct Work;
 

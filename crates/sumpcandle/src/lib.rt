@@ -1,14 +1,14 @@
 // How late can each task finish? The cells of every task of an image, and the C host's number for one task. The layers
 // below speak to each other inside this crate, and learn of an image only what `image::read` promises.
 use answers::TaskCells;
-use image::Answer;
-use image::Refusal;
-use image::Table;
 use layout::Work;
+use refusals::Answer;
+use refusals::Refusal;
+use row::Table;
 ghost use mathlib.Core.Path.{_≡_};
 ghost use Prim.Native.Nat.{_+_, _*_, _<_};
 ghost use lib.ListN.{length};
-ghost use Rattle.image.specs.Row.{tableOf};
+ghost use Rattle.row.specs.Row.{tableOf};
 ghost use Rattle.table.specs.Limits.{tasksInAll};
 ghost use Rattle.sumpcandle.specs.Parts.{RowOfTable};
 ghost use Rattle.sumpcandle.specs.Answered.{stored};
@@ -21,7 +21,7 @@ mod layout;
 mod links;
 mod overload;
 mod quantity;
-mod row;
+mod reads;
 mod walk;
 mod work;
 
@@ -78,7 +78,7 @@ fn fill(table: &[u32; Table::CELLS], budget: u32, row: &mut [u32]) -> Filled
     requires { ⌜ RowOfTable (now table) ⌝ }
     ensures { λ r. ⌜ FillsFrom (tableOf (now (table .entry))) budget (now (row .entry)) (now (row .exit)) r ⌝ }
 {
-    let count = row::index(Table::in_all(table));
+    let count = reads::index(Table::in_all(table));
     if row.len() < TaskCells::COUNT * count {
         return Filled::Short;
     }
@@ -111,7 +111,7 @@ pub fn cells(image: &[u8], budget: u32, row: &mut [u32]) -> Filled
 fn pair(upper: u32, lower: u32) -> u64
     ensures { λ r. ⌜ r ≡ paired upper lower ⌝ }
 {
-    row::wide(upper) * 4_294_967_296 + row::wide(lower)
+    reads::wide(upper) * 4_294_967_296 + reads::wide(lower)
 }
 
 // The number for one task of a lent table.
@@ -119,7 +119,7 @@ fn response(table: &[u32; Table::CELLS], task: usize, budget: u32) -> u64
     requires { ⌜ RowOfTable (now table) ⌝ }
     ensures { λ r. ⌜ RespondsFrom (tableOf (now (table .entry))) task budget r ⌝ }
 {
-    if task < row::index(Table::in_all(table)) {
+    if task < reads::index(Table::in_all(table)) {
         let mut working = [0u32; Work::CELLS];
         work::prepare(table, &mut working);
         let c = answers::task_cells(table, &mut working, task, budget);
@@ -139,7 +139,7 @@ pub extern "C" fn sumpcandle_response(image: &[u8], task: u32, budget: u32) -> u
         Answer::Refused(refusal, at) => pair(refusal.number(), at as u32),
         Answer::Accepted => {
             let table = reading.table;
-            response(&table.cells, row::index(task), budget)
+            response(&table.cells, reads::index(task), budget)
         }
     }
 }

@@ -5,9 +5,9 @@ use super::charges;
 use super::charges::Subject;
 use super::charges::greater;
 use super::layout::Work;
-use super::row;
-use image::Table;
-use image::Transaction;
+use super::reads;
+use row::Table;
+use row::Transaction;
 ghost use mathlib.Core.Path.{_≡_};
 ghost use mathlib.Core.Bool.{true, false};
 ghost use Prim.Native.Nat.{_+_, _*_, _<_};
@@ -28,7 +28,7 @@ pub(crate) fn weight(row: &[u32; Work::CELLS], s: Subject, i: usize, m: usize, j
     requires { ⌜ m < modes (tableAt (now row)) i ⌝ }
     ensures { λ r. ⌜ r ≡ weight (tableAt (now (row .entry))) (s .u) (s .a) i m j ⌝ }
 {
-    row[Work::WEIGHTS + Table::TASKS * m + (row::before(row, i) + j)]
+    row[Work::WEIGHTS + Table::TASKS * m + (reads::before(row, i) + j)]
 }
 
 // Whether no task of transaction i weighs more in mode m than in mode n.
@@ -40,7 +40,7 @@ fn is_below(row: &[u32; Work::CELLS], s: Subject, i: usize, m: usize, n: usize) 
     requires { ⌜ n < modes (tableAt (now row)) i ⌝ }
     ensures { λ r. ⌜ (r ≡ true → Below (tableAt (now (row .entry))) (s .u) (s .a) i m n) ⌝ }
 {
-    let count = row::tasks(row, i);
+    let count = reads::tasks(row, i);
     let mut j: usize = 0;
     while j < count {
         if weight(row, s, i, n, j) < weight(row, s, i, m, j) {
@@ -59,7 +59,7 @@ fn is_dropped(row: &[u32; Work::CELLS], s: Subject, i: usize, m: usize) -> bool
     requires { ⌜ m < modes (tableAt (now row)) i ⌝ }
     ensures { λ r. ⌜ (r ≡ true → Dropped (tableAt (now (row .entry))) (s .u) (s .a) i m) ⌝ }
 {
-    let count = row::modes(row, i);
+    let count = reads::modes(row, i);
     let mut n = m + 1;
     while n < count {
         if is_below(row, s, i, m, n) {
@@ -99,9 +99,9 @@ fn link_task(row: &mut [u32; Work::CELLS], s: Subject, k: usize, after: u32) -> 
     ensures { λ _. ⌜ LinkedFrom (tableAt (now (row .entry))) (s .u) (s .a) k (now (row .exit)) ⌝ }
     ensures { λ _. ⌜ SameTo rowsCell (now (row .entry)) (now (row .exit)) ⌝ }
 {
-    let i = row::owner(&*row, k);
-    let c = k - row::before(&*row, i);
-    let mut m = row::modes(&*row, i);
+    let i = reads::owner(&*row, k);
+    let c = k - reads::before(&*row, i);
+    let mut m = reads::modes(&*row, i);
     let mut next = after;
     row[Work::ROWS + (Transaction::MODES * k + m)] = next;
     while 0 < m {
@@ -120,7 +120,7 @@ fn link_rows(row: &mut [u32; Work::CELLS], s: Subject)
     ensures { λ _. ⌜ LinkedFrom (tableAt (now (row .entry))) (s .u) (s .a) 0 (now (row .exit)) ⌝ }
     ensures { λ _. ⌜ SameTo rowsCell (now (row .entry)) (now (row .exit)) ⌝ }
 {
-    let mut k = row::in_all(&*row);
+    let mut k = reads::in_all(&*row);
     let mut next = (Transaction::MODES * k) as u32;
     while 0 < k {
         k -= 1;
@@ -135,7 +135,7 @@ fn most_weights(row: &[u32; Work::CELLS], s: Subject, i: usize) -> u64
     requires { ⌜ i < transactions (tableAt (now row)) ⌝ }
     ensures { λ r. ⌜ r ≡ most (modes (tableAt (now (row .entry))) i) (weights (tableAt (now (row .entry))) (s .u) (s .a) i) ⌝ }
 {
-    let count = row::modes(row, i);
+    let count = reads::modes(row, i);
     let mut best: u64 = 0;
     let mut m: usize = 0;
     while m < count {
@@ -166,7 +166,7 @@ fn link_others(row: &mut [u32; Work::CELLS], s: Subject)
     ensures { λ _. ⌜ OthersFrom (tableAt (now (row .entry))) (s .u) (s .a) 0 (now (row .exit)) ⌝ }
     ensures { λ _. ⌜ SameTo othersCell (now (row .entry)) (now (row .exit)) ⌝ }
 {
-    let mut i = row::transactions(&*row);
+    let mut i = reads::transactions(&*row);
     let mut next = i as u32;
     row[Work::OTHERS + i] = next;
     while 0 < i {

@@ -2,7 +2,7 @@
 use super::charges::Subject;
 use super::charges::greater;
 use super::layout::Work;
-use super::row;
+use super::reads;
 ghost use mathlib.Core.Path.{_≡_};
 ghost use Prim.Native.Nat.{_<_, _*_, _/_};
 ghost use native.Mathlib.Decide.{ℕ-discrete};
@@ -21,10 +21,10 @@ fn urgent_time(row: &[u32; Work::CELLS], s: Subject, i: usize, m: usize, j: usiz
     requires { ⌜ m < modes (tableAt (now row)) i ⌝ }
     ensures { λ r. ⌜ r ≡ when (urgent? (tableAt (now (row .entry))) (s .u) (s .a) i j) (time (tableAt (now (row .entry))) i m j) ⌝ }
 {
-    if row::priority(row, i, j) < s.priority {
+    if reads::priority(row, i, j) < s.priority {
         0
     } else {
-        row::time(row, i, m, j)
+        reads::time(row, i, m, j)
     }
 }
 
@@ -36,7 +36,7 @@ fn load(row: &[u32; Work::CELLS], s: Subject, i: usize, m: usize) -> u64
     requires { ⌜ m < modes (tableAt (now row)) i ⌝ }
     ensures { λ r. ⌜ r ≡ load (tableAt (now (row .entry))) (s .u) (s .a) i m ⌝ }
 {
-    let count = row::tasks(row, i);
+    let count = reads::tasks(row, i);
     let mut sum: u64 = 0;
     let mut j: usize = 0;
     while j < count {
@@ -55,7 +55,7 @@ fn counted_load(row: &[u32; Work::CELLS], s: Subject, i: usize, m: usize) -> u64
     ensures { λ r. ⌜ r ≡ when (countsBy (ℕ-discrete i (s .u)) (runs? (tableAt (now (row .entry))) (s .u) m (s .a))) (load (tableAt (now (row .entry))) (s .u) (s .a) i m) ⌝ }
 {
     if i == s.u {
-        if row::time(row, s.u, m, s.a) == 0 {
+        if reads::time(row, s.u, m, s.a) == 0 {
             return 0;
         }
     }
@@ -69,7 +69,7 @@ fn most_load(row: &[u32; Work::CELLS], s: Subject, i: usize) -> u64
     requires { ⌜ i < transactions (tableAt (now row)) ⌝ }
     ensures { λ r. ⌜ r ≡ mostLoad (tableAt (now (row .entry))) (s .u) (s .a) i ⌝ }
 {
-    let count = row::modes(row, i);
+    let count = reads::modes(row, i);
     let mut best: u64 = 0;
     let mut m: usize = 0;
     while m < count {
@@ -86,7 +86,7 @@ fn share(row: &[u32; Work::CELLS], s: Subject, i: usize) -> u64
     requires { ⌜ i < transactions (tableAt (now row)) ⌝ }
     ensures { λ r. ⌜ r ≡ tableAt (now (row .entry)) .frame / period (tableAt (now (row .entry))) i * mostLoad (tableAt (now (row .entry))) (s .u) (s .a) i ⌝ }
 {
-    row::frame(row) / row::period(row, i) * most_load(row, s, i)
+    reads::frame(row) / reads::period(row, i) * most_load(row, s, i)
 }
 
 fn frame_demand(row: &[u32; Work::CELLS], s: Subject) -> u64
@@ -94,7 +94,7 @@ fn frame_demand(row: &[u32; Work::CELLS], s: Subject) -> u64
     requires { ⌜ IsSubject (now row) s ⌝ }
     ensures { λ r. ⌜ r ≡ frameDemand (tableAt (now (row .entry))) (s .u) (s .a) ⌝ }
 {
-    let count = row::transactions(row);
+    let count = reads::transactions(row);
     let mut sum: u64 = 0;
     let mut i: usize = 0;
     while i < count {
@@ -109,5 +109,5 @@ pub(crate) fn is_overload(row: &[u32; Work::CELLS], s: Subject) -> bool
     requires { ⌜ IsSubject (now row) s ⌝ }
     ensures { λ r. ⌜ r ≡ tested (overload? (tableAt (now (row .entry))) (s .u) (s .a)) ⌝ }
 {
-    row::frame(row) < frame_demand(row, s)
+    reads::frame(row) < frame_demand(row, s)
 }

@@ -10,7 +10,7 @@ use super::links;
 use super::quantity::JobNumber;
 use super::quantity::Moment;
 use super::quantity::Ticks;
-use super::row;
+use super::reads;
 ghost use mathlib.Core.Path.{_≡_};
 ghost use lib.IntN.{pos, _+ℤ_, _-ℤ_, _*ℤ_};
 ghost use Prim.Native.Nat.{_-_, _<_, _≤_, _^_};
@@ -208,10 +208,10 @@ impl Walk {
         requires { ⌜ self .used ≤ budget ⌝ }
         ensures { λ r. ⌜ r ≡ walked budget (walkTurns imposed (tableAt (now (row .entry))) (s .u) (s .a) (modeTurns (tableAt (now (row .entry))) (s .u) (s .a) m) (budget - self .used) (self .best)) ⌝ }
     {
-        if row::time(row, s.u, m, s.a) == 0 {
+        if reads::time(row, s.u, m, s.a) == 0 {
             return Walked::Through(self);
         }
-        let count = row::tasks(row, s.u);
+        let count = reads::tasks(row, s.u);
         let mut state = self;
         let mut c: usize = 0;
         while c < count {
@@ -232,7 +232,7 @@ impl Walk {
         requires { ⌜ self .used ≤ budget ⌝ }
         ensures { λ r. ⌜ r ≡ walked budget (walkTurns imposed (tableAt (now (row .entry))) (s .u) (s .a) (walkOrder (tableAt (now (row .entry))) (s .u) (s .a)) (budget - self .used) (self .best)) ⌝ }
     {
-        let count = row::modes(row, s.u);
+        let count = reads::modes(row, s.u);
         let mut state = self;
         let mut m: usize = 0;
         while m < count {

@@ -3,17 +3,17 @@
 // working row.
 use super::charges::Subject;
 use super::layout::Work;
-use super::row;
-use image::Table;
-use image::Task;
-use image::Transaction;
+use super::reads;
+use row::Table;
+use row::Task;
+use row::Transaction;
 ghost use mathlib.Core.Path.{_≡_};
 ghost use Prim.Native.Nat.{_+_, _*_, _<_, _^_};
 ghost use lib.ListN.{length, take};
 ghost use Rattle.table.specs.Table.{IsTask, transactions, modes};
 ghost use Rattle.table.specs.Limits.{modesMost};
 ghost use Rattle.table.specs.Number.{before, inAll};
-ghost use Rattle.image.specs.Row.{rowCells, tableOf};
+ghost use Rattle.row.specs.Row.{rowCells, tableOf};
 ghost use Rattle.periods.specs.Phase.{phase};
 ghost use Rattle.analysis.specs.Charge.{phaseOf, heldOf};
 ghost use Rattle.sumpcandle.specs.Work.{workCells, weightsCell, Holds, Lent, Chosen, Weighs, tableAt};
@@ -41,11 +41,11 @@ pub(crate) fn task(table: &[u32; Table::CELLS], k: usize) -> Subject
     requires { ⌜ k < inAll (tableOf (now table)) ⌝ }
     ensures { λ r. ⌜ IsSubjectAt (tableOf (now (table .entry))) k r ⌝ }
 {
-    let u = row::index(Table::cell(
+    let u = reads::index(Table::cell(
         table,
         Table::TASKS_CELL + k * Task::CELLS + Task::OWNER_CELL,
     ));
-    let a = k - row::index(Table::first(table, u));
+    let a = k - reads::index(Table::first(table, u));
     Subject {
         u,
         a,
@@ -101,7 +101,7 @@ fn put_phases(table: &[u32; Table::CELLS], work: &mut [u32; Work::CELLS], k: usi
     let x = task(table, k);
     let i = x.u;
     let c = x.a;
-    let count = row::index(Table::tasks(table, i));
+    let count = reads::index(Table::tasks(table, i));
     let mut j: usize = 0;
     while j < count {
         work[Work::PHASES + Transaction::TASKS * k + j] = phase_of(table, i, c, j);
@@ -116,7 +116,7 @@ fn phases(table: &[u32; Table::CELLS], work: &mut [u32; Work::CELLS])
     ensures { λ _. ⌜ Phased (tableOf (now (table .entry))) (inAll (tableOf (now (table .entry)))) (now (work .exit)) ⌝ }
     ensures { λ _. ⌜ SameTo rowCells (now (work .entry)) (now (work .exit)) ⌝ }
 {
-    let count = row::index(Table::in_all(table));
+    let count = reads::index(Table::in_all(table));
     let mut k: usize = 0;
     while k < count {
         put_phases(table, work, k);
@@ -205,8 +205,8 @@ fn held_back(
     let mut held: u64 = 0;
     let mut j: usize = 0;
     while j < count {
-        held += row::wide(work[Work::HELD + Transaction::TASKS * (first + c) + j])
-            * row::wide(work[Work::WEIGHTS + Table::TASKS * m + (first + j)]);
+        held += reads::wide(work[Work::HELD + Transaction::TASKS * (first + c) + j])
+            * reads::wide(work[Work::WEIGHTS + Table::TASKS * m + (first + j)]);
         j += 1;
     }
     held
@@ -247,9 +247,9 @@ fn weigh_transaction(work: &mut [u32; Work::CELLS], s: Subject, i: usize)
     ensures { λ _. ⌜ SameTo weightsCell (now (work .entry)) (now (work .exit)) ⌝ }
     ensures { λ _. ⌜ WeighedTo (tableAt (now (work .entry))) (s .u) (s .a) (modesMost * (i + 1)) (now (work .exit)) ⌝ }
 {
-    let first = row::before(&*work, i);
-    let count = row::tasks(&*work, i);
-    let modes = row::modes(&*work, i);
+    let first = reads::before(&*work, i);
+    let count = reads::tasks(&*work, i);
+    let modes = reads::modes(&*work, i);
     let mut m: usize = 0;
     while m < modes {
         put_weights(work, s, i, m, first, count);
@@ -266,7 +266,7 @@ pub(crate) fn weigh(work: &mut [u32; Work::CELLS], s: Subject)
     ensures { λ _. ⌜ tableAt (now (work .exit)) ≡ tableAt (now (work .entry)) ⌝ }
     ensures { λ _. ⌜ Weighs (now (work .exit)) s ⌝ }
 {
-    let count = row::transactions(&*work);
+    let count = reads::transactions(&*work);
     let mut i: usize = 0;
     while i < count {
         weigh_transaction(work, s, i);

@@ -1,3 +1,4 @@
 pub mod Sum
+pub mod Lists
 pub mod Number
 pub mod Kept

@@ -1,4 +1,5 @@
 pub mod Sum
+pub mod Lists
 pub mod Table
 pub mod Limits
 pub mod Kept

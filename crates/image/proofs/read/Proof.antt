@@ -5,14 +5,15 @@ use mathlib.Core.Bool.{false}
 use mathlib.Core.List.{List}
 use Prim.Native.Nat.{ℕ}
 use denote.Ref.{now}
-use Rattle.image.specs.declared.answer.Answer.{Answer}
-use Rattle.image.specs.declared.answer.Answer.the-variants.{Accepted, Refused}
-use Rattle.image.specs.Answer.{isAccepted}
-use Rattle.image.specs.Lists.{padded}
-use Rattle.image.specs.Fault.{imageFault}
-use Rattle.image.specs.Row.{emptyRow}
-use Rattle.image.specs.Read.{IsAccepted, rowFor}
-use Rattle.image.proofs.Findings.{accepted-is}
+use Rattle.refusals.specs.declared.Answer.{Answer}
+use Rattle.refusals.specs.declared.Answer.the-variants.{Accepted, Refused}
+use Rattle.refusals.specs.Answer.{isAccepted}
+use Rattle.table.specs.Lists.{padded}
+use Rattle.format.specs.Fault.{imageFault}
+use Rattle.row.specs.Row.{emptyRow}
+use Rattle.format.specs.Fault.{IsAccepted}
+use Rattle.image.specs.Read.{rowFor}
+use Rattle.refusals.proofs.Findings.{accepted-is}
 use borrow.Author.Needs.{needs}
 use Rattle.image.proofs.read.Statement.{statement}
 use Rattle.image.proofs.read.Tie as tie

@@ -3,9 +3,9 @@ use mathlib.Core.Path.{_≡_, refl, sym, _∙_, subst}
 use denote.Ref.{now}
 use borrow.Author.Needs.{needs}
 use Rattle.table.specs.Table.{Table}
-use Rattle.image.specs.declared.answer.Answer.the-variants.{Refused}
-use Rattle.image.specs.Fault.{imageFault}
-use Rattle.image.specs.Read.{IsAccepted}
+use Rattle.refusals.specs.declared.Answer.the-variants.{Refused}
+use Rattle.format.specs.Fault.{imageFault}
+use Rattle.format.specs.Fault.{IsAccepted}
 use Rattle.sumpcandle.specs.Told.{FillsFrom, Fills}
 use Rattle.sumpcandle.proofs.Told.{read-table, read-lent}
 use Rattle.sumpcandle.proofs.cells.Statement.{statement}

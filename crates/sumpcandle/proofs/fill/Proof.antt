@@ -8,7 +8,7 @@ use denote.Ref.{now}
 use borrow.Author.Needs.{needs}
 use Rattle.table.specs.Limits.{tasksInAll}
 use Rattle.table.specs.Number.{inAll}
-use Rattle.image.specs.Row.{tableOf}
+use Rattle.row.specs.Row.{tableOf}
 use Rattle.sumpcandle.specs.Work.{Lent, tableAt}
 use Rattle.sumpcandle.specs.Told.{cellsOfTask, FillsFrom}
 use Rattle.sumpcandle.proofs.Filling.{count-is}

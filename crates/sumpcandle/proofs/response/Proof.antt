@@ -4,7 +4,7 @@ use native.Mathlib.Omega.{arith}
 use denote.Ref.{now}
 use borrow.Author.Needs.{needs}
 use Rattle.table.specs.Number.{inAll}
-use Rattle.image.specs.Row.{tableOf}
+use Rattle.row.specs.Row.{tableOf}
 use Rattle.sumpcandle.specs.Told.{RespondsFrom}
 use Rattle.sumpcandle.proofs.Filling.{count-is}
 use Rattle.sumpcandle.proofs.Told.{cells-respond}

@@ -4,9 +4,9 @@ use Prim.Native.Nat.{ℕ}
 use denote.Ref.{now}
 use borrow.Author.Needs.{needs}
 use Rattle.table.specs.Table.{Table}
-use Rattle.image.specs.declared.answer.Answer.the-variants.{Refused}
-use Rattle.image.specs.Fault.{imageFault}
-use Rattle.image.specs.Read.{IsAccepted}
+use Rattle.refusals.specs.declared.Answer.the-variants.{Refused}
+use Rattle.format.specs.Fault.{imageFault}
+use Rattle.format.specs.Fault.{IsAccepted}
 use Rattle.sumpcandle.specs.Told.{RespondsFrom, Responds}
 use Rattle.sumpcandle.proofs.Told.{read-table, read-lent, place-small}
 use Rattle.sumpcandle.proofs.sumpcandle_response.Statement.{statement}

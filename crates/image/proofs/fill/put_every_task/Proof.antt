@@ -5,13 +5,13 @@ use native.Mathlib.Omega.{arith}
 use lib.Seq.{sets}
 use denote.Ref.{now}
 use Rattle.table.specs.Sum.{sum}
-use Rattle.image.specs.Lists.{joined}
-use Rattle.image.specs.Places.{start}
-use Rattle.image.specs.Said.{countIn, tasksBefore}
-use Rattle.image.specs.Row.{tasksCell}
+use Rattle.table.specs.Lists.{joined}
+use Rattle.format.specs.Places.{start}
+use Rattle.format.specs.Said.{countIn, tasksBefore}
+use Rattle.row.specs.Row.{tasksCell}
 use Rattle.image.specs.Fill.{ofTasksIn, everyTaskIn}
-use Rattle.image.proofs.Places.{count-small, modes-small, tasks-small, next-start, next-before, Near, near}
-use Rattle.image.proofs.Accepted.{SoundHead, head}
+use Rattle.format.proofs.Places.{count-small, modes-small, tasks-small, next-start, next-before, Near, near}
+use Rattle.format.proofs.Accepted.{SoundHead, head}
 use Rattle.image.proofs.Cells.{next-tasks}
 use Rattle.image.proofs.fill.put_every_task.Statement.{statement}
 use Rattle.image.proofs.fill.put_every_task.Tie as tie
@@ -34,15 +34,15 @@ here c =
 
 -- the counts of this transaction: the sum so far with its tasks is within the row
 held :
-    (c : tie.After-at Inv-loop μ-loop)
-    → (c .at .result .modes < 16) × (c .at .result .tasks < 32) × (c .before .before .loop .before + c .at .result .tasks ≤ 64)
+    (c : tie.After-head-at Inv-loop μ-loop)
+    → (c .head-at .result .modes < 16) × (c .head-at .result .tasks < 32) × (c .before .before .loop .before + c .head-at .result .tasks ≤ 64)
 held c =
     let at-loop = c .before .before in
     let start-args = at-loop .before .before .before in
     let image = now (start-args .args .image) in
     let sound : SoundHead image (tasksBefore image (at-loop .loop .u)) (start image (at-loop .loop .u)) =
     head image (start-args .pre) (at-loop .loop .u) (omega arith) in
-    rw (c .at .ensures, at-loop .loop .inv .3, at-loop .loop .inv .2)
+    rw (c .head-at .ensures, at-loop .loop .inv .3, at-loop .loop .inv .2)
     (modes-small image _, tasks-small image _, sound .inAll)
 
 value-requires : tie.Need-value-requires Inv-loop μ-loop
@@ -55,8 +55,8 @@ loop-holds : tie.Need-loop-holds Inv-loop μ-loop
 unfolding everyTaskIn joined start tasksBefore sum
 loop-holds c = (c .value .ensures, zero-le, refl, refl, refl)
 
-at-requires : tie.Need-at-requires Inv-loop μ-loop
-at-requires c κs = omega (arith, here (c .before))
+head-at-requires : tie.Need-head-at-requires Inv-loop μ-loop
+head-at-requires c κs = omega (arith, here (c .before))
 
 cast-owner : tie.Need-cast-owner Inv-loop μ-loop
 cast-owner c = omega (arith, here (c .before .before))
@@ -94,10 +94,10 @@ loop-again c =
     let u = at-loop .loop .u in (
       at-loop .loop .inv .0,
       omega (arith, c .before .before .before .before .before .loop-test .taken),
-      rw (next-before image u, ← at-loop .loop .inv .2, ← at-loop .loop .inv .3, c .before .before .before .before .at .ensures),
+      rw (next-before image u, ← at-loop .loop .inv .2, ← at-loop .loop .inv .3, c .before .before .before .before .head-at .ensures),
       rw (next-start image u, ← at-loop .loop .inv .3, c .end-of .ensures),
       c .before .before .put-tasks .ensures
-          ∙ rw (c .before .before .before .before .at .ensures, at-loop .loop .inv .4, at-loop .loop .inv .2, at-loop .loop .inv .3)
+          ∙ rw (c .before .before .before .before .head-at .ensures, at-loop .loop .inv .4, at-loop .loop .inv .2, at-loop .loop .inv .3)
           (next-tasks image (now (a .cells)) tasksCell u),
     )
 
@@ -116,7 +116,7 @@ put-every-task-spec =
     value-requires
     cast-count
     loop-holds
-    at-requires
+    head-at-requires
     cast-owner
     add-put-tasks
     mul-put-tasks

@@ -3,20 +3,20 @@ use native.Mathlib.Nat.{add-zero}
 use native.Mathlib.Numerals.{add-one, add-two, add-three}
 use native.Mathlib.Omega.{arith}
 use denote.Ref.{now}
-use Rattle.image.proofs.Places.{modes-small, tasks-small}
+use Rattle.format.proofs.Places.{modes-small, tasks-small}
 use Rattle.image.proofs.Cells.{head-cells}
 use borrow.Author.Needs.{needs}
 use Rattle.image.proofs.fill.put_head.Statement.{statement}
 use Rattle.image.proofs.fill.put_head.Tie as tie
 
-at-requires : tie.Need-at-requires
-at-requires c κs = search needs
+head-at-requires : tie.Need-head-at-requires
+head-at-requires c κs = search needs
 
 cast-modes : tie.Need-cast-modes
-cast-modes c = rw (c .before .at .ensures) (omega (arith, modes-small (now (c .before .before .before .args .image)) (c .before .before .before .args .at)))
+cast-modes c = rw (c .before .head-at .ensures) (omega (arith, modes-small (now (c .before .before .before .args .image)) (c .before .before .before .args .at)))
 
 cast-tasks : tie.Need-cast-tasks
-cast-tasks c = rw (c .before .before .at .ensures) (omega (arith, tasks-small (now (c .before .before .before .before .args .image)) (c .before .before .before .before .args .at)))
+cast-tasks c = rw (c .before .before .head-at .ensures) (omega (arith, tasks-small (now (c .before .before .before .before .args .image)) (c .before .before .before .before .args .at)))
 
 add-cells : tie.Need-add-cells
 add-cells c = search needs
@@ -59,7 +59,7 @@ returns c =
     let a = c .before .before .before .before .args in
     rw (
       head-cells (a .first) (now (a .image)) (a .at),
-      c .before .before .at .ensures,
+      c .before .before .head-at .ensures,
       add-zero (a .cell),
       add-one (a .cell),
       add-two (a .cell),
@@ -70,7 +70,7 @@ pub put-head-spec : {M : Type 1} → statement M
 put-head-spec =
     tie.close
     (tie.spec
-    at-requires
+    head-at-requires
     cast-modes
     cast-tasks
     add-cells

@@ -5,12 +5,12 @@ use native.Mathlib.Omega.{arith}
 use lib.Seq.{sets}
 use denote.Ref.{now}
 use Rattle.table.specs.Sum.{sum}
-use Rattle.image.specs.Lists.{joined}
-use Rattle.image.specs.Places.{start}
-use Rattle.image.specs.Said.{countIn, tasksBefore}
-use Rattle.image.specs.Row.{headerCells}
+use Rattle.table.specs.Lists.{joined}
+use Rattle.format.specs.Places.{start}
+use Rattle.format.specs.Said.{countIn, tasksBefore}
+use Rattle.row.specs.Row.{headerCells}
 use Rattle.image.specs.Fill.{headsIn}
-use Rattle.image.proofs.Places.{count-small, tasks-small, next-start, next-before, Near, near}
+use Rattle.format.proofs.Places.{count-small, tasks-small, next-start, next-before, Near, near}
 use Rattle.image.proofs.Cells.{next-head}
 use Rattle.image.proofs.fill.put_heads.Statement.{statement}
 use Rattle.image.proofs.fill.put_heads.Tie as tie
@@ -31,8 +31,8 @@ here c =
     let known : Near (now (c .before .before .before .args .image)) (c .loop .u) = near _ _ (omega arith) in
     omega arith
 
-few : (c : tie.After-at Inv-loop μ-loop) → c .at .result .tasks < 32
-few c = rw (c .at .ensures) (tasks-small _ _)
+few : (c : tie.After-head-at Inv-loop μ-loop) → c .head-at .result .tasks < 32
+few c = rw (c .head-at .ensures) (tasks-small _ _)
 
 value-requires : tie.Need-value-requires Inv-loop μ-loop
 value-requires c κs = tt
@@ -53,8 +53,8 @@ add-put-head c = omega (arith, here (c .before .before))
 put-head-requires : tie.Need-put-head-requires Inv-loop μ-loop
 put-head-requires c κs = omega (arith, here (c .before .before))
 
-at-requires : tie.Need-at-requires Inv-loop μ-loop
-at-requires c κs = omega (arith, here (c .before .before .before))
+head-at-requires : tie.Need-head-at-requires Inv-loop μ-loop
+head-at-requires c κs = omega (arith, here (c .before .before .before))
 
 cast-before : tie.Need-cast-before Inv-loop μ-loop
 cast-before c = omega (arith, few (c .before))
@@ -79,7 +79,7 @@ loop-again c =
     let u = at-loop .loop .u in (
       at-loop .loop .inv .0,
       omega (arith, c .before .before .before .before .before .loop-test .taken),
-      rw (next-before image u, ← at-loop .loop .inv .2, ← at-loop .loop .inv .3, c .before .before .at .ensures),
+      rw (next-before image u, ← at-loop .loop .inv .2, ← at-loop .loop .inv .3, c .before .before .head-at .ensures),
       rw (next-start image u, ← at-loop .loop .inv .3, c .end-of .ensures),
       c .before .before .before .put-head .ensures
           ∙ rw (at-loop .loop .inv .4, at-loop .loop .inv .2, at-loop .loop .inv .3)
@@ -104,7 +104,7 @@ put-heads-spec =
     mul-put-head
     add-put-head
     put-head-requires
-    at-requires
+    head-at-requires
     cast-before
     add-before
     end-of-requires

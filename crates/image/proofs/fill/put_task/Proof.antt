@@ -2,14 +2,14 @@
 use mathlib.Core.Path.{_∙_}
 use native.Mathlib.Nat.{add-zero}
 use native.Mathlib.Numerals.{add-one, add-two, add-three, add-four, add-five, add-six}
-use Rattle.image.specs.Said.{taskIn}
-use Rattle.image.specs.Row.{ofTask}
+use Rattle.format.specs.Said.{taskIn}
+use Rattle.row.specs.Row.{ofTask}
 use borrow.Author.Needs.{needs}
 use Rattle.image.proofs.fill.put_task.Statement.{statement}
 use Rattle.image.proofs.fill.put_task.Tie as tie
 
-at-requires : tie.Need-at-requires
-at-requires c κs = search needs
+body-at-requires : tie.Need-body-at-requires
+body-at-requires c κs = search needs
 
 add-cells : tie.Need-add-cells
 add-cells c = search needs
@@ -80,7 +80,7 @@ returns c =
     let cell = c .before .before .before .before .args .cell in
     c .put-times .ensures
     ∙ rw (
-      c .before .before .at .ensures,
+      c .before .before .body-at .ensures,
       add-zero cell,
       add-one cell,
       add-two cell,
@@ -94,7 +94,7 @@ pub put-task-spec : {M : Type 1} → statement M
 put-task-spec =
     tie.close
     (tie.spec
-    at-requires
+    body-at-requires
     add-cells
     mul-cells
     element-write-cells

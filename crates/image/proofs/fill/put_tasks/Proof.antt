@@ -4,10 +4,10 @@ use Prim.Native.Nat.{_-_, _*_, _≤_, zero-le}
 use native.Mathlib.Omega.{arith}
 use lib.Seq.{sets}
 use denote.Ref.{now}
-use Rattle.image.specs.Lists.{joined}
-use Rattle.image.specs.Places.{taskWidth}
+use Rattle.table.specs.Lists.{joined}
+use Rattle.format.specs.Places.{taskWidth}
 use Rattle.image.specs.Fill.{tasksCells}
-use Rattle.image.proofs.Places.{tasks-width}
+use Rattle.format.proofs.Places.{tasks-width}
 use Rattle.image.proofs.Cells.{next-task}
 use Rattle.image.proofs.fill.put_tasks.Statement.{statement}
 use Rattle.image.proofs.fill.put_tasks.Tie as tie

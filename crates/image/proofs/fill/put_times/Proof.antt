@@ -8,8 +8,8 @@ use lib.Seq.{sets}
 use denote.Ref.{now}
 use Rattle.bits.specs.Bits.{valueAt}
 use Rattle.table.specs.Limits.{timeWidth}
-use Rattle.image.specs.Lists.{listOf}
-use Rattle.image.proofs.Lists.{store-next}
+use Rattle.table.specs.Lists.{listOf}
+use Rattle.table.proofs.Lists.{store-next}
 use Rattle.image.proofs.fill.put_times.Statement.{statement}
 use Rattle.image.proofs.fill.put_times.Tie as tie
 

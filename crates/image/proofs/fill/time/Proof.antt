@@ -5,8 +5,8 @@ use lib.ListN.{length, List·getD-eq-default}
 use denote.Ref.{now}
 use Rattle.bits.specs.Bits.{valueAt}
 use Rattle.table.specs.Limits.{timeWidth}
-use Rattle.image.specs.Lists.{listOf}
-use Rattle.image.proofs.Lists.{length-listOf, getD-listOf}
+use Rattle.table.specs.Lists.{listOf}
+use Rattle.table.proofs.Lists.{length-listOf, getD-listOf}
 use borrow.Author.Needs.{needs}
 use Rattle.image.proofs.fill.time.Statement.{statement}
 use Rattle.image.proofs.fill.time.Tie as tie

@@ -3,8 +3,8 @@ use mathlib.Core.Path.{_≡_}
 use Prim.Native.Nat.{ℕ, _-_, _*_, min}
 use native.Mathlib.Omega.{arith}
 use Rattle.bits.specs.Bits.{widest}
-use Rattle.image.specs.Fault.{endFault}
-use Rattle.image.specs.Places.{bytesTo}
+use Rattle.format.specs.Fault.{endFault}
+use Rattle.format.specs.Places.{bytesTo}
 use borrow.Author.Needs.{needs}
 use Rattle.image.proofs.scan.end.Statement.{statement}
 use Rattle.image.proofs.scan.end.Tie as tie

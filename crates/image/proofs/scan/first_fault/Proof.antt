@@ -1,8 +1,8 @@
 -- `scan::first_fault` meets its contract: the transactions are looked at where the header is sound.
-use Rattle.image.specs.Answer.{_then_}
+use Rattle.refusals.specs.Answer.{_then_}
 use mathlib.Core.Path.{sym, _∙_}
-use Rattle.image.specs.Fault.{imageFault}
-use Rattle.image.proofs.Findings.{accepted-is, refused-then}
+use Rattle.format.specs.Fault.{imageFault}
+use Rattle.refusals.proofs.Findings.{accepted-is, refused-then}
 use borrow.Author.Needs.{needs}
 use Rattle.image.proofs.scan.first_fault.Statement.{statement}
 use Rattle.image.proofs.scan.first_fault.Tie as tie

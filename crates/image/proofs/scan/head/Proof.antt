@@ -1,15 +1,15 @@
 -- `scan::head` meets its contract: one chain of checks, rewritten by what each call ensures, the last first.
 use Prim.Native.Nat.{_<_}
 use denote.Ref.{now}
-use Rattle.image.proofs.Places.{tasks-small}
+use Rattle.format.proofs.Places.{tasks-small}
 use native.Mathlib.Omega.{arith}
-use Rattle.image.specs.Fault.{headFault}
+use Rattle.format.specs.Fault.{headFault}
 use borrow.Author.Needs.{needs}
 use Rattle.image.proofs.scan.head.Statement.{statement}
 use Rattle.image.proofs.scan.head.Tie as tie
 
-few : (c : tie.After-at) → c .at .result .tasks < 32
-few c = rw (c .at .ensures) (tasks-small (now (c .before .before .before .args .image)) (c .before .before .before .args .at))
+few : (c : tie.After-head-at) → c .head-at .result .tasks < 32
+few c = rw (c .head-at .ensures) (tasks-small (now (c .before .before .before .args .image)) (c .before .before .before .args .at))
 
 add-modes : tie.Need-add-modes
 add-modes c = search needs
@@ -20,8 +20,8 @@ add-tasks c = search needs
 value-requires : tie.Need-value-requires
 value-requires c κs = search needs
 
-at-requires : tie.Need-at-requires
-at-requires c κs = search needs
+head-at-requires : tie.Need-head-at-requires
+head-at-requires c κs = search needs
 
 ends-requires : tie.Need-ends-requires
 ends-requires c κs = search needs
@@ -68,7 +68,7 @@ then-requires-5 c κs = search needs
 returns : tie.Need-returns
 unfolding headFault
 returns c =
-    rw (c .then5 .ensures, c .before .check3 .ensures, c .before .before .few-tasks .ensures, c .before .before .before .then4 .ensures, c .before .before .before .before .ends3 .ensures, c .before .before .before .before .before .then3 .ensures, c .before .before .before .before .before .before .check2 .ensures, c .before .before .before .before .before .before .before .between .ensures, c .before .before .before .before .before .before .before .before .then2 .ensures, c .before .before .before .before .before .before .before .before .before .ends2 .ensures, c .before .before .before .before .before .before .before .before .before .before .then .ensures, c .before .before .before .before .before .before .before .before .before .before .before .check .ensures, c .before .before .before .before .before .before .before .before .before .before .before .before .divides .ensures, c .before .before .before .before .before .before .before .before .before .before .before .before .before .ends .ensures, c .before .before .before .before .before .before .before .before .before .before .before .before .before .before .at .ensures, c .before .before .before .before .before .before .before .before .before .before .before .before .before .before .before .value .ensures)
+    rw (c .then5 .ensures, c .before .check3 .ensures, c .before .before .few-tasks .ensures, c .before .before .before .then4 .ensures, c .before .before .before .before .ends3 .ensures, c .before .before .before .before .before .then3 .ensures, c .before .before .before .before .before .before .check2 .ensures, c .before .before .before .before .before .before .before .between .ensures, c .before .before .before .before .before .before .before .before .then2 .ensures, c .before .before .before .before .before .before .before .before .before .ends2 .ensures, c .before .before .before .before .before .before .before .before .before .before .then .ensures, c .before .before .before .before .before .before .before .before .before .before .before .check .ensures, c .before .before .before .before .before .before .before .before .before .before .before .before .divides .ensures, c .before .before .before .before .before .before .before .before .before .before .before .before .before .ends .ensures, c .before .before .before .before .before .before .before .before .before .before .before .before .before .before .head-at .ensures, c .before .before .before .before .before .before .before .before .before .before .before .before .before .before .before .value .ensures)
 
 pub head-spec : {M : Type 1} → statement M
 head-spec =
@@ -77,7 +77,7 @@ head-spec =
     add-modes
     add-tasks
     value-requires
-    at-requires
+    head-at-requires
     ends-requires
     divides-requires
     check-requires

@@ -1,5 +1,5 @@
 -- `scan::header` meets its contract: one chain of checks, rewritten by what each call ensures, the last first.
-use Rattle.image.specs.Fault.{headerFault}
+use Rattle.format.specs.Fault.{headerFault}
 use borrow.Author.Needs.{needs}
 use Rattle.image.proofs.scan.header.Statement.{statement}
 use Rattle.image.proofs.scan.header.Tie as tie

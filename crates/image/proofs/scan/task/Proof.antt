@@ -1,6 +1,6 @@
 -- `scan::task` meets its contract: one chain of checks, rewritten by what each call ensures, the last first.
 use native.Mathlib.Omega.{arith}
-use Rattle.image.specs.Fault.{taskFault}
+use Rattle.format.specs.Fault.{taskFault}
 use borrow.Author.Needs.{needs}
 use Rattle.image.proofs.scan.task.Statement.{statement}
 use Rattle.image.proofs.scan.task.Tie as tie
@@ -20,8 +20,8 @@ add-priority c = search needs
 add-times : tie.Need-add-times
 add-times c = search needs
 
-at-requires : tie.Need-at-requires
-at-requires c κs = search needs
+body-at-requires : tie.Need-body-at-requires
+body-at-requires c κs = search needs
 
 ends-requires : tie.Need-ends-requires
 ends-requires c κs = search needs
@@ -74,7 +74,7 @@ then-requires-7 c κs = search needs
 returns : tie.Need-returns
 unfolding taskFault
 returns c =
-    rw (c .then7 .ensures, c .before .check2 .ensures, c .before .before .times-sum .ensures, c .before .before .before .then6 .ensures, c .before .before .before .before .times-end .ensures, c .before .before .before .before .before .then5 .ensures, c .before .before .before .before .before .before .ends5 .ensures, c .before .before .before .before .before .before .before .then4 .ensures, c .before .before .before .before .before .before .before .before .check .ensures, c .before .before .before .before .before .before .before .before .before .before .then3 .ensures, c .before .before .before .before .before .before .before .before .before .before .before .ends4 .ensures, c .before .before .before .before .before .before .before .before .before .before .before .before .then2 .ensures, c .before .before .before .before .before .before .before .before .before .before .before .before .before .ends3 .ensures, c .before .before .before .before .before .before .before .before .before .before .before .before .before .before .then .ensures, c .before .before .before .before .before .before .before .before .before .before .before .before .before .before .before .ends2 .ensures, c .before .before .before .before .before .before .before .before .before .before .before .before .before .before .before .before .ends .ensures, c .before .before .before .before .before .before .before .before .before .before .before .before .before .before .before .before .before .at .ensures)
+    rw (c .then7 .ensures, c .before .check2 .ensures, c .before .before .times-sum .ensures, c .before .before .before .then6 .ensures, c .before .before .before .before .times-end .ensures, c .before .before .before .before .before .then5 .ensures, c .before .before .before .before .before .before .ends5 .ensures, c .before .before .before .before .before .before .before .then4 .ensures, c .before .before .before .before .before .before .before .before .check .ensures, c .before .before .before .before .before .before .before .before .before .before .then3 .ensures, c .before .before .before .before .before .before .before .before .before .before .before .ends4 .ensures, c .before .before .before .before .before .before .before .before .before .before .before .before .then2 .ensures, c .before .before .before .before .before .before .before .before .before .before .before .before .before .ends3 .ensures, c .before .before .before .before .before .before .before .before .before .before .before .before .before .before .then .ensures, c .before .before .before .before .before .before .before .before .before .before .before .before .before .before .before .ends2 .ensures, c .before .before .before .before .before .before .before .before .before .before .before .before .before .before .before .before .ends .ensures, c .before .before .before .before .before .before .before .before .before .before .before .before .before .before .before .before .before .body-at .ensures)
 
 pub task-spec : {M : Type 1} → statement M
 task-spec =
@@ -85,7 +85,7 @@ task-spec =
     add-deadline
     add-priority
     add-times
-    at-requires
+    body-at-requires
     ends-requires
     ends-requires-2
     then-requires

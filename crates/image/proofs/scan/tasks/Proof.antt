@@ -3,12 +3,12 @@ use mathlib.Core.Path.{_≡_, refl, sym, _∙_}
 use denote.Ref.{now}
 use Prim.Native.Nat.{ℕ, _+_, _-_, _*_, _≤_, zero-le}
 use native.Mathlib.Omega.{arith}
-use Rattle.image.specs.declared.answer.Answer.{Answer}
-use Rattle.image.specs.Answer.{firstOf}
-use Rattle.image.specs.Places.{taskWidth}
-use Rattle.image.specs.Fault.{taskFault}
-use Rattle.image.proofs.Findings.{go-on, stop}
-use Rattle.image.proofs.Places.{tasks-width}
+use Rattle.refusals.specs.declared.Answer.{Answer}
+use Rattle.refusals.specs.Answer.{firstOf}
+use Rattle.format.specs.Places.{taskWidth}
+use Rattle.format.specs.Fault.{taskFault}
+use Rattle.refusals.proofs.Findings.{go-on, stop}
+use Rattle.format.proofs.Places.{tasks-width}
 use Rattle.image.proofs.scan.tasks.Statement.{statement}
 use Rattle.image.proofs.scan.tasks.Tie as tie
 

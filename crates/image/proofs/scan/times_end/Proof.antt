@@ -4,8 +4,8 @@ use Prim.Native.Nat.{_+_, _-_, _*_, _≤_, zero-le}
 use native.Mathlib.Numerals.{add-one}
 use native.Mathlib.Omega.{arith}
 use Rattle.table.specs.Limits.{timeWidth}
-use Rattle.image.specs.Answer.{firstOf}
-use Rattle.image.specs.Fault.{endsAt}
+use Rattle.refusals.specs.Answer.{firstOf}
+use Rattle.format.specs.Fault.{endsAt}
 use Rattle.image.proofs.scan.times_end.Statement.{statement}
 use Rattle.image.proofs.scan.times_end.Tie as tie
 

@@ -5,13 +5,13 @@ use Prim.Native.Nat.{ℕ, _-_, _≤_, _<_, zero-le}
 use native.Mathlib.Omega.{arith}
 use denote.Ref.{now}
 use Rattle.table.specs.Sum.{sum}
-use Rattle.image.specs.declared.answer.Answer.{Answer}
-use Rattle.image.specs.Answer.{isAccepted, _then_, firstOf}
-use Rattle.image.specs.Places.{start}
-use Rattle.image.specs.Said.{countIn, tasksBefore}
-use Rattle.image.specs.Fault.{transactionFault, bodyFault}
-use Rattle.image.proofs.Findings.{refused-then, go-on, stop}
-use Rattle.image.proofs.Places.{start-small, before-small, count-small, tasks-small, next-start, next-before}
+use Rattle.refusals.specs.declared.Answer.{Answer}
+use Rattle.refusals.specs.Answer.{isAccepted, _then_, firstOf}
+use Rattle.format.specs.Places.{start}
+use Rattle.format.specs.Said.{countIn, tasksBefore}
+use Rattle.format.specs.Fault.{transactionFault, bodyFault}
+use Rattle.refusals.proofs.Findings.{refused-then, go-on, stop}
+use Rattle.format.proofs.Places.{start-small, before-small, count-small, tasks-small, next-start, next-before}
 use Rattle.image.proofs.scan.transactions.Statement.{statement}
 use Rattle.image.proofs.scan.transactions.Tie as tie
 
@@ -34,8 +34,8 @@ near c =
     let image = now (c .before .before .before .args .image) in
     omega (arith, start-small image (c .loop .u), before-small image (c .loop .u), count-small image)
 
-few : (c : tie.After-at Inv-loop μ-loop) → c .at .result .tasks < 32
-few c = rw (c .at .ensures) (tasks-small _ _)
+few : (c : tie.After-head-at Inv-loop μ-loop) → c .head-at .result .tasks < 32
+few c = rw (c .head-at .ensures) (tasks-small _ _)
 
 value-requires : tie.Need-value-requires Inv-loop μ-loop
 value-requires c κs = tt
@@ -66,8 +66,8 @@ returns c =
     refused in
     all ∙ sym (refused-then (firstOf (countIn image) (faults image)) _ (ap isAccepted (sym all) ∙ refused))
 
-at-requires : tie.Need-at-requires Inv-loop μ-loop
-at-requires c κs = omega (arith, near (c .before .before .before .before))
+head-at-requires : tie.Need-head-at-requires Inv-loop μ-loop
+head-at-requires c κs = omega (arith, near (c .before .before .before .before))
 
 add-before : tie.Need-add-before Inv-loop μ-loop
 add-before c = omega (arith, near (c .before .before .before .before .before .before), few (c .before))
@@ -87,7 +87,7 @@ loop-again c =
     let image = now (at-loop .before .before .before .args .image) in (
       at-loop .loop .inv .0,
       omega (arith, c .before .before .before .before .before .before .loop-test .taken),
-      rw (next-before image (at-loop .loop .u), ← at-loop .loop .inv .2, ← at-loop .loop .inv .3, c .before .before .at .ensures),
+      rw (next-before image (at-loop .loop .u), ← at-loop .loop .inv .2, ← at-loop .loop .inv .3, c .before .before .head-at .ensures),
       rw (next-start image (at-loop .loop .u), ← at-loop .loop .inv .3, c .end-of .ensures),
       rw (
         ← go-on (faults image) (at-loop .loop .u) (at-loop .loop .found)
@@ -124,7 +124,7 @@ transactions-spec =
     is-accepted-requires
     transaction-requires
     returns
-    at-requires
+    head-at-requires
     add-before
     end-of-requires
     add-u

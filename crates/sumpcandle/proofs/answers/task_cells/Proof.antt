@@ -4,7 +4,7 @@ use mathlib.Core.Path.{_≡_, sym, ap, ap₂, _∙_, subst}
 use denote.Ref.{now}
 use borrow.Author.Needs.{needs}
 use Rattle.table.specs.Table.{Table, deadline}
-use Rattle.image.specs.Row.{tableOf}
+use Rattle.row.specs.Row.{tableOf}
 use Rattle.periods.specs.Charge.{imposed}
 use Rattle.analysis.specs.Answer.{cells}
 use Rattle.analysis.specs.Walk.{answer}

@@ -5,7 +5,7 @@ use native.Mathlib.Omega.{arith}
 use borrow.Author.Needs.{needs}
 use denote.Ref.{now}
 use Rattle.table.specs.Number.{inAll}
-use Rattle.image.specs.Row.{rowCells, tableOf}
+use Rattle.row.specs.Row.{rowCells, tableOf}
 use Rattle.sumpcandle.specs.Parts.{SameTo, Phased}
 use Rattle.sumpcandle.proofs.Filling.{count-is, same-refl, same-trans, phased-none}
 use Rattle.sumpcandle.proofs.work.phases.Statement.{statement}

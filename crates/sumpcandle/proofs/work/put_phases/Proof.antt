@@ -6,7 +6,7 @@ use native.Mathlib.Omega.{arith}
 use borrow.Author.Needs.{needs}
 use denote.Ref.{now}
 use Rattle.table.specs.Table.{tasks as tasksIn}
-use Rattle.image.specs.Row.{tableOf}
+use Rattle.row.specs.Row.{tableOf}
 use Rattle.sumpcandle.proofs.Ranges.{tasks-few}
 use Rattle.sumpcandle.proofs.Filling.{PhasesTo, phases-none, phases-next, phases-all}
 use Rattle.sumpcandle.proofs.work.put_phases.Statement.{statement}

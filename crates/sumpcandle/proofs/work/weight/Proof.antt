@@ -8,7 +8,7 @@ use Rattle.table.specs.Limits.{modesMost, tasksInAll}
 use Rattle.table.specs.Number.{number}
 use Rattle.table.specs.Table.{priority}
 use Rattle.table.proofs.Number.{number-lt}
-use Rattle.image.specs.Row.{taskCell, priorityCell}
+use Rattle.row.specs.Row.{taskCell, priorityCell}
 use Rattle.sumpcandle.specs.Work.{tableAt}
 use Rattle.sumpcandle.proofs.Fields.{priority-cell, time-cell}
 use Rattle.sumpcandle.proofs.Ranges.{modes-few}

@@ -1,0 +1,111 @@
+-- Worked images, computed: document 01's last image field by field, and refusals with their numbers and places.
+use mathlib.Core.Path.{_≡_, refl}
+use mathlib.Core.List.{List, [], _∷_, _++_, map}
+use Prim.Native.Nat.{ℕ}
+use lib.ListN.{take, replicate, set}
+use Rattle.bits.specs.Bits.{bitAt, valueAt}
+use Rattle.table.specs.Sum.{sum}
+use Rattle.table.specs.Sample.{plain, lone}
+use Rattle.refusals.specs.declared.Answer.the-variants.{Accepted, Refused}
+use Rattle.refusals.specs.declared.Refusal.the-variants.{EndsInside, EditionUnknown, FrameZero, TransactionCount, PeriodUnfit, ModeCount, TaskCount, DeadlineZero, NeverRuns, PaddingSet, BytesFollow}
+use Rattle.refusals.specs.Answer.{answerNumber, _then_, firstOf, checked}
+use Rattle.table.specs.Lists.{listOf}
+use Rattle.format.specs.Places.{past, start}
+use Rattle.format.specs.Said.{taskIn, transactionIn, tableIn, tasksBefore}
+use Rattle.format.specs.Fault.{headerFault, taskFault, headFault, transactionFault, endFault, bodyFault, imageFault}
+
+-- one task, frame 10, T 10, C 3, P 5, D 10
+abbrev last : List ℕ
+last =
+    (0x10 ∷ 0x00 ∷ 0x00 ∷ 0xA0 ∷ 0x40 ∷ 0x00 ∷ 0x02 ∷ 0x84 ∷ 0x20 ∷ [])
+    ++ replicate 11 0x00
+    ++ (0x50 ∷ 0x28 ∷ 0x00 ∷ 0x00 ∷ 0x18 ∷ [])
+
+last-is-accepted : imageFault last ≡ Accepted
+unfolding imageFault headerFault bodyFault transactionFault headFault taskFault endFault firstOf _then_ checked start past tasksBefore sum valueAt bitAt
+last-is-accepted = refl
+
+last-says : tableIn last ≡ lone 10 (plain 0 3 5 10)
+unfolding tableIn transactionIn taskIn listOf start past valueAt bitAt
+last-says = refl
+
+-- a table in which no two fields are the same number
+abbrev distinct : List ℕ
+distinct =
+    0x10 ∷ 0x00 ∷ 0x00 ∷ 0xC0 ∷ 0x80 ∷ 0x00 ∷ 0x01 ∷ 0x88 ∷ 0x40 ∷ 0x00 ∷ 0x00 ∷ 0x20 ∷ 0x00 ∷ 0x00 ∷ 0x40 ∷ 0x00
+    ∷ 0x00 ∷ 0x60 ∷ 0x00 ∷ 0x00 ∷ 0x20 ∷ 0x28 ∷ 0x00 ∷ 0x00 ∷ 0x30 ∷ 0x00 ∷ 0x00 ∷ 0x38 ∷ 0x00 ∷ 0x00 ∷ 0x40 ∷ 0x00
+    ∷ 0x00 ∷ 0x48 ∷ 0x00 ∷ 0x00 ∷ 0x50 ∷ 0x00 ∷ 0x00 ∷ 0x16 ∷ 0x18 ∷ 0x00 ∷ 0x00 ∷ 0x1A ∷ 0x00 ∷ 0x00 ∷ 0x00 ∷ 0x00
+    ∷ 0x00 ∷ 0x18 ∷ 0x21 ∷ 0x00 ∷ 0x00 ∷ 0x0E ∷ 0x00 ∷ 0x00 ∷ 0x0F ∷ 0x00 ∷ 0x00 ∷ 0x10 ∷ 0x00 ∷ 0x00 ∷ 0x04 ∷ 0x44
+    ∷ 0x80 ∷ 0x00 ∷ 0x04 ∷ 0xC0 ∷ []
+
+distinct-says :
+    tableIn distinct
+    ≡ record { edition = 1; frame = 12; transactions = record { period = 6; modes = 2; tasks = record { offset = 1; jitter = 2; blocking = 3; deadline = 4; priority = 5; times = 6 ∷ 7 ∷ [] } ∷ record { offset = 8; jitter = 9; blocking = 10; deadline = 11; priority = 12; times = 13 ∷ 0 ∷ [] } ∷ [] } ∷ record { period = 12; modes = 1; tasks = record { offset = 14; jitter = 15; blocking = 16; deadline = 17; priority = 18; times = 19 ∷ [] } ∷ [] } ∷ [] }
+unfolding tableIn transactionIn taskIn listOf start past valueAt bitAt
+distinct-says = refl
+
+distinct-is-accepted : imageFault distinct ≡ Accepted
+unfolding imageFault headerFault bodyFault transactionFault headFault taskFault endFault firstOf _then_ checked start past tasksBefore sum valueAt bitAt
+distinct-is-accepted = refl
+
+-- each refusal, at its place: the image with a byte changed, cut or added to
+abbrev faulty : List (List ℕ)
+faulty =
+    []
+    ∷ take 1 last
+    ∷ take 24 last
+    ∷ take 24 (set last 24 0x00)
+    ∷ set last 0 0x20
+    ∷ set last 3 0x00
+    ∷ set last 4 0x00
+    ∷ set last 3 0xA8
+    ∷ set last 6 0x01
+    ∷ set (set last 6 0x00) 7 0x04
+    ∷ set last 7 0x80
+    ∷ set last 7 0xA4
+    ∷ set last 8 0x00
+    ∷ set last 7 0x86
+    ∷ set last 20 0x00
+    ∷ set last 24 0x00
+    ∷ set last 24 0x19
+    ∷ (set last 24 0x19 ++ (0x00 ∷ []))
+    ∷ (last ++ (0x00 ∷ []))
+    ∷ []
+
+refusals :
+    map imageFault faulty
+    ≡ Refused EndsInside 0
+    ∷ Refused EndsInside 4
+    ∷ Refused EndsInside 173
+    ∷ Refused EndsInside 173
+    ∷ Refused EditionUnknown 0
+    ∷ Refused FrameZero 4
+    ∷ Refused TransactionCount 28
+    ∷ Refused TransactionCount 28
+    ∷ Refused PeriodUnfit 34
+    ∷ Refused PeriodUnfit 34
+    ∷ Refused ModeCount 58
+    ∷ Refused ModeCount 58
+    ∷ Refused TaskCount 62
+    ∷ Refused TaskCount 62
+    ∷ Refused DeadlineZero 139
+    ∷ Refused NeverRuns 173
+    ∷ Refused PaddingSet 197
+    ∷ Refused PaddingSet 197
+    ∷ Refused BytesFollow 200
+    ∷ []
+unfolding imageFault headerFault bodyFault transactionFault headFault taskFault endFault firstOf _then_ checked start past tasksBefore sum valueAt bitAt
+refusals = refl
+
+numbers : map (λ image. answerNumber (imageFault image)) (last ∷ faulty) ≡ 0 ∷ 1 ∷ 1 ∷ 1 ∷ 1 ∷ 2 ∷ 3 ∷ 4 ∷ 4 ∷ 5 ∷ 5 ∷ 6 ∷ 6 ∷ 7 ∷ 7 ∷ 8 ∷ 9 ∷ 10 ∷ 10 ∷ 11 ∷ []
+unfolding imageFault headerFault bodyFault transactionFault headFault taskFault endFault firstOf _then_ checked start past tasksBefore sum valueAt bitAt
+numbers = refl
+
+-- the sum so far with this transaction's one task: 64, and 65
+with-63-before : headFault last 63 34 ≡ Accepted
+unfolding headFault _then_ checked valueAt bitAt
+with-63-before = refl
+
+with-64-before : headFault last 64 34 ≡ Refused TaskCount 62
+unfolding headFault _then_ checked valueAt bitAt
+with-64-before = refl

@@ -1,0 +1,9 @@
+pub mod Places
+pub mod Accepted
+pub mod Said
+pub mod Kept
+pub mod Reach
+pub mod Cases
+pub mod Spans
+pub mod Round
+pub mod ImageCases

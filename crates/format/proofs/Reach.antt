@@ -1,0 +1,168 @@
+-- How far an image reaches: the longest accepted one, and the furthest place of a refusal.
+use mathlib.Core.Path.{_≡_}
+use mathlib.Core.List.{List}
+use Prim.Native.Nat.{ℕ, zero, suc, _+_, _*_, _≤_, _<_}
+use native.Mathlib.Nat.{mul-le-mul, le-refl, add-mul, one-mul}
+use native.Mathlib.Decide.{ℕ-discrete}
+use native.Mathlib.Omega.{arith}
+use lib.ListN.{length}
+use Rattle.table.specs.Sum.{sum}
+use Rattle.table.specs.Limits.{tasksInAll, editionWidth, frameWidth, transactionsWidth}
+use Rattle.bits.specs.Bits.{isInside}
+use Rattle.refusals.specs.declared.Refusal.the-variants.{EndsInside, EditionUnknown, FrameZero, TransactionCount}
+use Rattle.refusals.specs.declared.Answer.the-variants.{Accepted}
+use Rattle.refusals.specs.Answer.{answerPlace, firstOf}
+use Rattle.format.specs.Places.{editionAt, frameAt, countAt, taskWidth, taskAt, past, start, longestImage}
+use Rattle.format.specs.Said.{countIn, modesIn, tasksIn, tasksBefore}
+use Rattle.format.specs.Fault.{endsAt, headerFault, taskFault, headFault, transactionFault, endFault, bodyFault, imageFault}
+use Rattle.format.specs.Fault.{IsAccepted}
+use Rattle.refusals.proofs.Findings.{none-first, none-of, place-checked, place-then, place-first}
+use Rattle.format.proofs.Accepted.{SoundHead, sound-header, sound-head, header, head, end}
+
+-- the widest task has 298 bits, and each transaction adds its head of 33
+tasks-reach : (n m : ℕ) → m ≤ 8 → n * taskWidth m ≤ n * 298
+tasks-reach n m narrow =
+    let wide : taskWidth m ≤ 298 = omega arith in
+    mul-le-mul (le-refl n) wide
+
+module _ (image : List ℕ) where
+  abbrev Sound : ℕ → Type 0
+  Sound v = SoundHead image (tasksBefore image v) (start image v)
+
+  -- where the heads of the first u transactions are sound
+  reach : (u : ℕ) → ((v : ℕ) → v < u → Sound v) → start image u ≤ 34 + 33 * u + 298 * tasksBefore image u
+  unfolding start past tasksBefore sum
+  reach zero each = omega arith
+  reach (suc u) each =
+      let p = start image u in
+      omega (
+        arith,
+        reach u (λ v h. each v (omega arith)),
+        tasks-reach (tasksIn image p) (modesIn image p) (each u (omega arith) .fewModes),
+      )
+
+  few : (u : ℕ) → ((v : ℕ) → v < u → Sound v) → tasksBefore image u ≤ tasksInAll
+  unfolding tasksBefore sum
+  few zero each = omega arith
+  few (suc u) each = each u (omega arith) .inAll
+
+  reach-most : (u : ℕ) → u ≤ 32 → ((v : ℕ) → v < u → Sound v) → start image u ≤ 20_162
+  reach-most u h each = omega (arith, reach u each, few u each)
+
+  -- no accepted image is longer than 2,521 bytes
+  pub longest : IsAccepted image → length image ≤ longestImage
+  longest ok =
+      omega (arith, end image ok .last, reach-most (countIn image) (header image ok .few) (head image ok))
+
+  -- ---- the furthest place of a finding
+
+  abbrev most : ℕ
+  most = 8 * longestImage
+
+  ends-place : (p w : ℕ) → p ≤ most → answerPlace (endsAt image p w) ≤ most
+  ends-place p w h = place-checked most (isInside image p w) EndsInside p h
+
+  header-place : answerPlace (headerFault image) ≤ most
+  unfolding headerFault
+  header-place =
+      place-then most _ _
+      (place-then most _ _
+      (place-then most _ _
+      (place-then most _ _
+      (place-then most _ _
+      (ends-place editionAt editionWidth (omega arith))
+      (λ e. place-checked most _ EditionUnknown editionAt (omega arith)))
+      (λ e. ends-place frameAt frameWidth (omega arith)))
+      (λ e. place-checked most _ FrameZero frameAt (omega arith)))
+      (λ e. ends-place countAt transactionsWidth (omega arith)))
+      (λ e. place-checked most _ TransactionCount countAt (omega arith))
+
+  head-place : (before p : ℕ) → p + 28 ≤ most → answerPlace (headFault image before p) ≤ most
+  unfolding headFault
+  head-place before p h =
+      place-then most _ _
+      (place-then most _ _
+      (place-then most _ _
+      (place-then most _ _
+      (place-then most _ _ (ends-place _ _ (omega arith)) (λ e. place-checked most _ _ _ (omega arith)))
+      (λ e. ends-place _ _ (omega arith)))
+      (λ e. place-checked most _ _ _ (omega arith)))
+      (λ e. ends-place _ _ (omega arith)))
+      (λ e. place-checked most _ _ _ (omega arith))
+
+  task-place : (m q : ℕ) → q + taskWidth m ≤ most → answerPlace (taskFault image m q) ≤ most
+  unfolding taskFault
+  task-place m q h =
+      place-then most _ _
+      (place-then most _ _
+      (place-then most _ _
+      (place-then most _ _
+      (place-then most _ _
+      (place-then most _ _
+      (place-then most _ _ (ends-place _ _ (omega arith)) (λ e. ends-place _ _ (omega arith)))
+      (λ e. ends-place _ _ (omega arith)))
+      (λ e. ends-place _ _ (omega arith)))
+      (λ e. place-checked most _ _ _ (omega arith)))
+      (λ e. ends-place _ _ (omega arith)))
+      (λ e. place-first most m _ (λ k below so-far. ends-place _ _ (omega arith))))
+      (λ e. place-checked most _ _ _ (omega arith))
+
+  -- task j of transaction u ends where the next transaction starts, or before
+  task-reach :
+      (p j : ℕ)
+      → j < tasksIn image p
+      → taskAt p (modesIn image p) j + taskWidth (modesIn image p) ≤ past image p
+  unfolding past
+  task-reach p j h =
+      let one-more : (j + 1) * taskWidth (modesIn image p) ≤ tasksIn image p * taskWidth (modesIn image p) =
+      mul-le-mul (omega arith) (le-refl (taskWidth (modesIn image p))) in
+      omega (arith, one-more, add-mul j 1 (taskWidth (modesIn image p)), one-mul (taskWidth (modesIn image p)))
+
+  transaction-place :
+      (u : ℕ)
+      → u < 32
+      → ((v : ℕ) → v < u → Sound v)
+      → answerPlace (transactionFault image (tasksBefore image u) (start image u)) ≤ most
+  unfolding transactionFault start
+  transaction-place u h each =
+      let p = start image u in
+      place-then most _ _ (head-place (tasksBefore image u) p (omega (arith, reach u each, few u each)))
+      (λ clear.
+      let here : Sound u = sound-head image (tasksBefore image u) p clear in
+      let next : start image (suc u) ≤ 20_162 = reach-most (suc u) h (more each here) in
+      place-first most (tasksIn image p) _
+      (λ j within so-far.
+      task-place (modesIn image p) (taskAt p (modesIn image p) j) (omega (arith, task-reach p j within, next))))
+    where
+      more : ((v : ℕ) → v < u → Sound v) → Sound u → (v : ℕ) → v < suc u → Sound v
+      more before-u at-u v below =
+          elim (ℕ-discrete v u) [
+            | yes e ↦ rw e at-u
+            | no ne ↦ before-u v (omega arith)
+          ]
+
+  end-place : (p : ℕ) → p ≤ 20_162 → answerPlace (endFault image p) ≤ most
+  unfolding endFault
+  end-place p h =
+      place-then most _ _ (place-checked most _ _ _ (omega arith)) (λ e. place-checked most _ _ _ (omega arith))
+
+  sound-before :
+      (n : ℕ)
+      → firstOf n (λ u. transactionFault image (tasksBefore image u) (start image u)) ≡ Accepted
+      → (v : ℕ)
+      → v < n
+      → Sound v
+  unfolding transactionFault
+  sound-before n clear v h = sound-head image (tasksBefore image v) (start image v) (none-first _ _ (none-of n _ clear v h))
+
+  -- every place is at most 20,168, whatever the bytes are
+  pub furthest : answerPlace (imageFault image) ≤ most
+  unfolding imageFault bodyFault
+  furthest =
+      place-then most _ _ header-place
+      (λ clear.
+      let few-transactions : countIn image ≤ 32 = sound-header image clear .few in
+      place-then most _ _
+      (place-first most (countIn image) _
+      (λ u below so-far. transaction-place u (omega arith) (sound-before u so-far)))
+      (λ all. end-place (start image (countIn image)) (reach-most (countIn image) few-transactions (sound-before (countIn image) all))))

@@ -1,0 +1,41 @@
+-- `head_at` meets its contract: each field is what its bits say.
+use borrow.Author.Needs.{needs}
+use Rattle.image.proofs.parts.head_at.Statement.{statement}
+use Rattle.image.proofs.parts.head_at.Tie as tie
+
+add-value : tie.Need-add-value
+add-value c = search needs
+
+value-requires : tie.Need-value-requires
+value-requires c κs = search needs
+
+add-value-2 : tie.Need-add-value-2
+add-value-2 c = search needs
+
+value-requires-2 : tie.Need-value-requires-2
+value-requires-2 c κs = search needs
+
+value-requires-3 : tie.Need-value-requires-3
+value-requires-3 c κs = search needs
+
+cast-t5 : tie.Need-cast-t5
+cast-t5 c = search needs
+
+cast-t7 : tie.Need-cast-t7
+cast-t7 c = search needs
+
+returns : tie.Need-returns
+returns c = rw (c .value3 .ensures, c .before .value2 .ensures, c .before .before .value .ensures)
+
+pub head-at-spec : {M : Type 1} → statement M
+head-at-spec =
+    tie.close
+    (tie.spec
+    add-value
+    value-requires
+    add-value-2
+    value-requires-2
+    value-requires-3
+    cast-t5
+    cast-t7
+    returns)

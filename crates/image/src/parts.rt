@@ -1,0 +1,34 @@
+// The parts of an image that stand before its tasks and before a task's times, by the bit position where each starts.
+use row::Task;
+use row::Transaction;
+ghost use mathlib.Core.Path.{_≡_};
+ghost use Prim.Native.Nat.{_<_, _^_};
+ghost use Rattle.image.specs.Head.{headAt, bodyAt};
+
+// What the image says of the transaction that starts at a bit position.
+pub(crate) fn head_at(image: &[u8], at: usize) -> Transaction
+    requires { ⌜ at < 2 ^ 32 ⌝ }
+    ensures { λ r. ⌜ r ≡ headAt (now (image .entry)) at ⌝ }
+{
+    let modes = bits::value(image, at + Transaction::MODES_AT, Transaction::MODES_WIDTH);
+    let tasks = bits::value(image, at + Transaction::TASKS_AT, Transaction::TASKS_WIDTH);
+    Transaction {
+        period: bits::value(image, at, Transaction::PERIOD_WIDTH),
+        modes: modes as usize,
+        tasks: tasks as usize,
+    }
+}
+
+// What the image says of the task that starts at a bit position.
+pub(crate) fn body_at(image: &[u8], at: usize) -> Task
+    requires { ⌜ at < 2 ^ 32 ⌝ }
+    ensures { λ r. ⌜ r ≡ bodyAt (now (image .entry)) at ⌝ }
+{
+    Task {
+        offset: bits::value(image, at, Task::OFFSET_WIDTH),
+        jitter: bits::value(image, at + Task::JITTER_AT, Task::JITTER_WIDTH),
+        blocking: bits::value(image, at + Task::BLOCKING_AT, Task::BLOCKING_WIDTH),
+        deadline: bits::value(image, at + Task::DEADLINE_AT, Task::DEADLINE_WIDTH),
+        priority: bits::value(image, at + Task::PRIORITY_AT, Task::PRIORITY_WIDTH),
+    }
+}

@@ -1,0 +1,101 @@
+-- Laws of findings: the first one stays, and where there is none each check held.
+use mathlib.Core.Path.{_≡_, refl, sym, ap, _∙_}
+use mathlib.Core.Bool.{Bool, true, false, _&&_}
+use Prim.Native.Nat.{ℕ, zero, suc, _+_, _≤_, _<_, zero-le}
+use native.Mathlib.Decide.{ℕ-discrete}
+use native.Mathlib.Numerals.{add-one}
+use native.Mathlib.Omega.{arith}
+use Rattle.refusals.specs.declared.Refusal.{Refusal}
+use Rattle.refusals.specs.declared.Answer.{Answer}
+use Rattle.refusals.specs.declared.Answer.the-variants.{Accepted, Refused}
+use Rattle.refusals.specs.Answer.{answerPlace, isAccepted, _then_, firstOf, checked}
+
+pub refused-then : (a b : Answer) → isAccepted a ≡ false → (a then b) ≡ a
+unfolding _then_
+refused-then Accepted b h = cc
+refused-then (Refused r at) b h = refl
+
+pub accepted-is : (a : Answer) → isAccepted a ≡ true → a ≡ Accepted
+accepted-is Accepted h = refl
+accepted-is (Refused r at) h = cc
+
+-- the first k of n have a finding: it is that of all n
+pub found-stays : (n k : ℕ) (f : ℕ → Answer) → k ≤ n → isAccepted (firstOf k f) ≡ false → firstOf n f ≡ firstOf k f
+unfolding firstOf
+found-stays zero k f h no-more =
+    let e : k ≡ 0 = omega arith in
+    ap (λ (i : ℕ). firstOf i f) (sym e)
+found-stays (suc n) k f h found = go (ℕ-discrete k (suc n)) (λ below. found-stays n k f below found)
+  where
+    go : Dec (k ≡ suc n) → (k ≤ n → firstOf n f ≡ firstOf k f) → firstOf (suc n) f ≡ firstOf k f
+    go (yes e) earlier = ap (λ (i : ℕ). firstOf i f) (sym e)
+    go (no ne) earlier =
+        let same : firstOf n f ≡ firstOf k f = earlier (omega arith) in
+        refused-then (firstOf n f) (f n) (ap isAccepted same ∙ found) ∙ same
+
+-- a loop over n places: no finding so far, so the next place's is that of one more; a finding so far is that of all
+pub go-on : (f : ℕ → Answer) (n : ℕ) (a : Answer) → a ≡ firstOf n f → isAccepted a ≡ true → f n ≡ firstOf (n + 1) f
+unfolding firstOf _then_
+go-on f n a so-far sound = rw (add-one n, firstOf, ← so-far, accepted-is a sound)
+
+pub stop : (f : ℕ → Answer) (n k : ℕ) (a : Answer) → k ≤ n → a ≡ firstOf k f → isAccepted a ≡ false → a ≡ firstOf n f
+stop f n k a h so-far found = so-far ∙ sym (found-stays n k f h (ap isAccepted (sym so-far) ∙ found))
+
+-- no finding among two: none in either
+pub none-first : (a b : Answer) → (a then b) ≡ Accepted → a ≡ Accepted
+unfolding _then_
+none-first Accepted b h = refl
+none-first (Refused r at) b h = h
+
+pub none-second : (a b : Answer) → (a then b) ≡ Accepted → b ≡ Accepted
+unfolding _then_
+none-second Accepted b h = h
+none-second (Refused r at) b h = cc
+
+pub none-of : (n : ℕ) (f : ℕ → Answer) → firstOf n f ≡ Accepted → (k : ℕ) → k < n → f k ≡ Accepted
+unfolding firstOf
+none-of zero f h k below = absurd (omega arith)
+none-of (suc n) f h k below = go (ℕ-discrete k n) (none-of n f (none-first _ _ h) k)
+  where
+    go : Dec (k ≡ n) → (k < n → f k ≡ Accepted) → f k ≡ Accepted
+    go (yes e) earlier = ap f e ∙ none-second _ _ h
+    go (no ne) earlier = earlier (omega arith)
+
+pub held : (t : Bool) (r : Refusal) (at : ℕ) → checked t r at ≡ Accepted → t ≡ true
+unfolding checked
+held true r at h = refl
+held false r at h = cc
+
+pub both-first : (s t : Bool) → (s && t) ≡ true → s ≡ true
+both-first true t h = refl
+both-first false t h = h
+
+pub both-second : (s t : Bool) → (s && t) ≡ true → t ≡ true
+both-second true t h = h
+both-second false t h = cc
+
+-- ---- how far the place of a finding reaches: a later check is looked at only where the earlier ones held
+
+pub place-checked : (most : ℕ) (t : Bool) (r : Refusal) (at : ℕ) → at ≤ most → answerPlace (checked t r at) ≤ most
+unfolding checked
+place-checked most true r at h = zero-le
+place-checked most false r at h = h
+
+pub place-then :
+    (most : ℕ) (a b : Answer)
+    → answerPlace a ≤ most
+    → (a ≡ Accepted → answerPlace b ≤ most)
+    → answerPlace (a then b) ≤ most
+unfolding _then_
+place-then most Accepted b h k = k refl
+place-then most (Refused r at) b h k = h
+
+pub place-first :
+    (most n : ℕ) (f : ℕ → Answer)
+    → ((k : ℕ) → k < n → firstOf k f ≡ Accepted → answerPlace (f k) ≤ most)
+    → answerPlace (firstOf n f) ≤ most
+unfolding firstOf
+place-first most zero f each = zero-le
+place-first most (suc n) f each =
+    place-then most (firstOf n f) (f n) (place-first most n f (λ k h so-far. each k (omega arith) so-far))
+    (each n (omega arith))

@@ -1,0 +1,48 @@
+-- What is said of an image: document 01's number and place for each answer, and which of several findings is given.
+use mathlib.Core.Bool.{Bool, true, false}
+use Prim.Native.Nat.{ℕ, zero, suc}
+use Rattle.refusals.specs.declared.Refusal.{Refusal}
+use Rattle.refusals.specs.declared.Refusal.the-variants.{EndsInside, EditionUnknown, FrameZero, TransactionCount, PeriodUnfit, ModeCount, TaskCount, DeadlineZero, NeverRuns, PaddingSet, BytesFollow}
+use Rattle.refusals.specs.declared.Answer.{Answer}
+use Rattle.refusals.specs.declared.Answer.the-variants.{Accepted, Refused}
+
+infixl 20 _then_
+abbrev pub refusalNumber : Refusal → ℕ
+refusalNumber EndsInside = 1
+refusalNumber EditionUnknown = 2
+refusalNumber FrameZero = 3
+refusalNumber TransactionCount = 4
+refusalNumber PeriodUnfit = 5
+refusalNumber ModeCount = 6
+refusalNumber TaskCount = 7
+refusalNumber DeadlineZero = 8
+refusalNumber NeverRuns = 9
+refusalNumber PaddingSet = 10
+refusalNumber BytesFollow = 11
+
+abbrev pub answerNumber : Answer → ℕ
+answerNumber Accepted = 0
+answerNumber (Refused refusal at) = refusalNumber refusal
+
+abbrev pub answerPlace : Answer → ℕ
+answerPlace Accepted = 0
+answerPlace (Refused refusal at) = at
+
+abbrev pub isAccepted : Answer → Bool
+isAccepted Accepted = true
+isAccepted (Refused refusal at) = false
+
+-- the first of two findings
+unfoldable pub _then_ : Answer → Answer → Answer
+Accepted then b = b
+Refused refusal at then b = Refused refusal at
+
+-- the first of n findings
+unfoldable pub firstOf : ℕ → (ℕ → Answer) → Answer
+firstOf zero f = Accepted
+firstOf (suc n) f = firstOf n f then f n
+
+-- a field's check: a refusal at its place where the check does not hold
+unfoldable pub checked : Bool → Refusal → ℕ → Answer
+checked true refusal at = Accepted
+checked false refusal at = Refused refusal at
