@@ -1,9 +1,9 @@
 // The technician's listing: a line for each task of the table on standard input, or the refusal. All that matters is in
 // the library; what is printed is held to stored output by the check.
+use answers::Filled;
 use input::Input;
 use libc::STDERR_FILENO;
 use libc::STDOUT_FILENO;
-use sumpcandle::Filled;
 
 const BUDGET: u32 = 1_000_000;
 

@@ -1,9 +1,9 @@
 // Answers many images in one run, for comparison with a second program. Standard input is a row of cases: budget, 4 bytes
 // most significant first; length of the image, 2 bytes; the image. A line for each: `accepted` and the cells of its tasks,
 // or `refused`, number and place. A case that is cut short ends the run.
+use answers::Filled;
 use libc::STDIN_FILENO;
 use libc::STDOUT_FILENO;
-use sumpcandle::Filled;
 ghost use Prim.Native.Nat.{_<_, _≤_};
 ghost use lib.ListN.{length};
 

@@ -1,0 +1,51 @@
+-- Decisions as the flags that tests give, and choosing by them.
+use mathlib.Core.Path.{_≡_, refl, sym}
+use mathlib.Core.Bool.{true, false}
+use Prim.Native.Nat.{ℕ, _<_}
+use native.Mathlib.Omega.{arith}
+use lib.Dec.{ltb}
+use borrow.Author.Tests.{lt-ltb, le-ltb}
+use Rattle.analysis.specs.Choice.{when, unless}
+use Rattle.answers.specs.Lent.{tested}
+
+pub tested-yes : {A : Type 0} (d : Dec A) → A → tested d ≡ true
+unfolding tested
+tested-yes (yes a) h = refl
+tested-yes (no f) h = absurd (f h)
+
+pub tested-no : {A : Type 0} (d : Dec A) → ¬ A → tested d ≡ false
+unfolding tested
+tested-no (yes a) h = absurd (h a)
+tested-no (no f) h = refl
+
+-- no flag is both
+pub never : false ≡ true → ⊥
+never e = let z : _≡_ {A = ℕ} 0 1 = cc in omega arith
+
+pub when-false : {A : Type 0} (d : Dec A) (x : ℕ) → tested d ≡ false → when d x ≡ 0
+unfolding tested when
+when-false (yes a) x e = absurd (never (sym e))
+when-false (no f) x e = refl
+
+-- what is chosen or not tells the flag
+
+pub chosen-flag : {A : Type 0} (d : Dec A) → when d 1 ≡ 1 → tested d ≡ true
+unfolding tested when
+chosen-flag (yes a) e = refl
+chosen-flag (no f) e = absurd (omega arith)
+
+pub spared-flag : {A : Type 0} (d : Dec A) → when d 1 ≡ 0 → tested d ≡ false
+unfolding tested when
+spared-flag (yes a) e = absurd (omega arith)
+spared-flag (no f) e = refl
+
+pub unless-yes : {A : Type 0} (d : Dec A) (x : ℕ) → A → unless d x ≡ 0
+unfolding unless
+unless-yes (yes a) x h = refl
+unless-yes (no f) x h = absurd (f h)
+
+-- a comparison is the flag of its decision
+pub tested-lt : (x y : ℕ) (d : Dec (x < y)) → ltb x y ≡ tested d
+unfolding tested
+tested-lt x y (yes h) = lt-ltb x y h
+tested-lt x y (no h) = le-ltb x y (omega arith)

@@ -1,0 +1,143 @@
+-- What the contracts say of document 01's sample S and of the empty image: the one row that `cells` may leave, and the one
+-- number that the host may get.
+use mathlib.Core.Path.{_≡_, refl, sym, subst}
+use mathlib.Core.List.{List, [], _∷_}
+use Prim.Native.Nat.{ℕ, zero, suc, _≤_}
+use native.Mathlib.Omega.{arith}
+use lib.ListN.{length, drop}
+use Rattle.bits.specs.Bits.{bitAt, valueAt}
+use Rattle.table.specs.Sum.{sum}
+use Rattle.table.specs.Table.{Table, IsTask, deadline}
+use Rattle.table.specs.Number.{number}
+use Rattle.table.specs.Kept.{Kept}
+use Rattle.table.specs.Sample.{S}
+use Rattle.refusals.specs.declared.Answer.the-variants.{Refused}
+use Rattle.refusals.specs.declared.Refusal.the-variants.{EndsInside}
+use Rattle.refusals.specs.Answer.{_then_, firstOf, checked}
+use Rattle.table.specs.Lists.{listOf, joined}
+use Rattle.format.specs.Places.{past, start}
+use Rattle.format.specs.Said.{taskIn, transactionIn, tableIn, tasksBefore}
+use Rattle.format.specs.Fault.{
+  headerFault,
+  taskFault,
+  headFault,
+  transactionFault,
+  endFault,
+  bodyFault,
+  imageFault,
+}
+use Rattle.format.specs.Fault.{IsAccepted}
+use Rattle.format.proofs.Kept.{kept}
+use Rattle.periods.specs.Charge.{imposed}
+use Rattle.analysis.specs.Answer.{Answer, bound, Cells, cells}
+use Rattle.analysis.specs.Walk.{answer}
+use Rattle.analysis.specs.Computing.{computing}
+use Rattle.analysis.proofs.Charges.{imposed-fair}
+use Rattle.analysis.proofs.Budget.{greater-budget}
+use Rattle.answers.specs.declared.Filled.{Filled}
+use Rattle.answers.specs.declared.Filled.the-variants as filled
+use Rattle.answers.specs.Told.{listed, Owed, FillsFrom, Fills, paired, RespondsFrom, Responds}
+use Rattle.answers.proofs.Told.{owed}
+use Rattle.answers.proofs.Agree.{written-joined, fills-unique, responds-unique}
+
+-- one name that opens every definition on the way from bytes to a table
+reading : Unit {0}
+unfolding bitAt valueAt sum _then_ firstOf checked listOf past start taskIn transactionIn tableIn tasksBefore headerFault taskFault headFault transactionFault endFault bodyFault imageFault
+reading = tt
+
+-- the image of S
+abbrev pub imageS : List ℕ
+imageS =
+    0x10 ∷ 0x00 ∷ 0x01 ∷ 0x40 ∷ 0x80 ∷ 0x00 ∷ 0x05 ∷ 0x04 ∷ 0x40 ∷ 0x00 ∷ 0x00 ∷ 0x00 ∷ 0x00 ∷ 0x00 ∷ 0x00 ∷ 0x00
+    ∷ 0x00 ∷ 0x00 ∷ 0x00 ∷ 0x00 ∷ 0x50 ∷ 0x48 ∷ 0x00 ∷ 0x00 ∷ 0x10 ∷ 0x00 ∷ 0x00 ∷ 0x20 ∷ 0x00 ∷ 0x00 ∷ 0x00 ∷ 0x00
+    ∷ 0x00 ∷ 0x00 ∷ 0x00 ∷ 0x00 ∷ 0x14 ∷ 0x10 ∷ 0x00 ∷ 0x00 ∷ 0x06 ∷ 0x00 ∷ 0x00 ∷ 0x28 ∷ 0x21 ∷ 0x00 ∷ 0x00 ∷ 0x00
+    ∷ 0x00 ∷ 0x00 ∷ 0x00 ∷ 0x00 ∷ 0x00 ∷ 0x00 ∷ 0x00 ∷ 0x00 ∷ 0x01 ∷ 0x00 ∷ 0x40 ∷ 0x00 ∷ 0x00 ∷ 0x80 ∷ []
+
+S-accepted : IsAccepted imageS
+unfolding reading
+S-accepted = refl
+
+S-table : tableIn imageS ≡ S
+unfolding reading
+S-table = refl
+
+empty-refused : imageFault [] ≡ Refused EndsInside 0
+unfolding reading
+empty-refused = refl
+
+S-kept : Kept S
+S-kept = rw S-table at (kept imageS S-accepted)
+
+-- task 2 of S
+last-S : IsTask S 1 0
+unfolding computing
+last-S = record { owner = omega arith; place = omega arith }
+
+-- the cells of S's tasks by number
+cellsS : ℕ → Cells
+cellsS zero = record { code = 0; bound = 2; evaluations = 3 }
+cellsS (suc zero) = record { code = 0; bound = 7; evaluations = 5 }
+cellsS (suc (suc k)) = record { code = 20; bound = 5; evaluations = 6 }
+
+module _ {budget : ℕ} (enough : 6 ≤ budget) where
+  -- with six evaluations no task of S is short, so a greater budget changes nothing
+  answer-S : {u a R n : ℕ} → IsTask S u a → answer imposed S u a 6 ≡ bound R n → answer imposed S u a budget ≡ bound R n
+  answer-S is e = greater-budget imposed-fair S-kept is enough e (λ m f. let z : _≡_ {A = ℕ} 0 1 = cc in omega arith)
+
+  owed-S : {u a R n : ℕ} → IsTask S u a → answer imposed S u a 6 ≡ bound R n → Owed S u a budget (cells (deadline S u a) (bound R n))
+  owed-S {u} {a} is e =
+      subst (λ (x : Answer). Owed S u a budget (cells (deadline S u a) x)) (answer-S is e) (owed S-kept is budget)
+
+  each : (u a : ℕ) → IsTask S u a → Owed S u a budget (cellsS (number S u a))
+  unfolding computing cellsS cells
+  each zero zero is = owed-S is refl
+  each zero (suc zero) is = owed-S is refl
+  each zero (suc (suc a)) is = absurd (omega (arith, is .place))
+  each (suc zero) zero is = owed-S is refl
+  each (suc zero) (suc a) is = absurd (omega (arith, is .place))
+  each (suc (suc u)) a is = absurd (omega (arith, is .owner))
+
+  -- document 01's listing of S, and then what was there
+  S-from :
+      {before after : List ℕ} {r : Filled}
+      → 9 ≤ length before
+      → FillsFrom S budget before after r
+      → (r ≡ filled.Done 3) × (after ≡ 0 ∷ 2 ∷ 3 ∷ 0 ∷ 7 ∷ 5 ∷ 20 ∷ 5 ∷ 6 ∷ drop 9 before)
+  unfolding computing joined listed cellsS
+  S-from room (FillsFrom.short l e) = absurd (omega arith)
+  S-from room (FillsFrom.done w) = (refl, written-joined S-kept w cellsS each)
+
+  pub S-row :
+      {before after : List ℕ} {r : Filled}
+      → 9 ≤ length before
+      → Fills imageS budget before after r
+      → (r ≡ filled.Done 3) × (after ≡ 0 ∷ 2 ∷ 3 ∷ 0 ∷ 7 ∷ 5 ∷ 20 ∷ 5 ∷ 6 ∷ drop 9 before)
+  S-row room (Fills.refused h e) = let z : _≡_ {A = ℕ} 0 1 = cc S-accepted in absurd (omega arith)
+  S-row {before} {after} {r} room (Fills.accepted ok f) =
+      S-from room (subst (λ (tab : Table). FillsFrom tab budget before after r) S-table f)
+
+  -- and the host's number for task 2
+  pub S-number : {r : ℕ} → Responds imageS 2 budget r → r ≡ paired 20 5
+  unfolding computing cellsS
+  S-number x = responds-unique x
+      (Responds.accepted S-accepted
+      (subst (λ (tab : Table). RespondsFrom tab 2 budget (paired 20 5)) (sym S-table)
+      (RespondsFrom.told {c = cellsS 2} last-S refl (each 1 0 last-S))))
+
+-- with a budget of 5 task 2 gets 23, 0
+pub S-short : {r : ℕ} → Responds imageS 2 5 r → r ≡ paired 23 0
+unfolding computing cells
+S-short x = responds-unique x
+    (Responds.accepted S-accepted
+    (subst (λ (tab : Table). RespondsFrom tab 2 5 (paired 23 0)) (sym S-table)
+    (RespondsFrom.told last-S refl (owed S-kept last-S 5))))
+
+-- the empty image is refused with 1 at place 0, and leaves the row
+pub empty-row :
+    {budget : ℕ} {before after : List ℕ} {r : Filled}
+    → Fills [] budget before after r
+    → (r ≡ filled.Refused EndsInside 0) × (after ≡ before)
+empty-row x = fills-unique x (Fills.refused empty-refused refl)
+
+pub empty-number : {task budget r : ℕ} → Responds [] task budget r → r ≡ paired 1 0
+empty-number x = responds-unique x (Responds.refused empty-refused)

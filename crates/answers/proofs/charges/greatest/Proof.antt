@@ -1,0 +1,139 @@
+-- The loop keeps the greatest of what the rows before z charge: z is the next that is charged, and ends behind the rows of
+-- the transaction. Assumes nothing.
+use borrow.Author.Needs.{needs}
+use mathlib.Core.Path.{ap, _∙_}
+use Prim.Native.Nat.{_+_, _-_, _/_, _%_, _≤_}
+use native.Mathlib.Omega.{arith}
+use Rattle.table.specs.Limits.{modesMost, tasksInAll}
+use Rattle.analysis.specs.Charge.{greatest}
+use Rattle.answers.specs.Quantity.{laterOf}
+use Rattle.answers.specs.Work.{tableAt}
+use Rattle.answers.proofs.Rows.{RowAt, row-at, end-le, first-row, next-row, Along, along-first, along-next, along-last}
+use Rattle.answers.proofs.charges.greatest.Statement.{statement}
+use Rattle.answers.proofs.charges.greatest.Tie as tie
+
+abbrev Inv-loop : tie.InvT-loop
+Inv-loop row s whole i x end best₀ z₀ best z = Along whole (tableAt row) (s .u) (s .a) i x best z
+
+abbrev μ-loop : tie.MeasureT-loop
+μ-loop row s whole i x end best₀ z₀ best z = end - z
+
+split-of-requires : tie.Need-split-of-requires Inv-loop μ-loop
+split-of-requires c κs = (c .pre .0 .holds, c .pre .1 .1)
+
+-- the places read lie within the row
+few : (c : tie.After-split-of Inv-loop μ-loop) → c .split-of .result .first + c .split-of .result .count ≤ tasksInAll
+few c = end-le (c .split-of .ensures .isSplit) (c .before .pre .0 .holds .kept)
+
+add-end : tie.Need-add-end Inv-loop μ-loop
+add-end c = omega (arith, few (c .before))
+
+mul-end : tie.Need-mul-end Inv-loop μ-loop
+mul-end c = omega (arith, few (c .before))
+
+mul-index : tie.Need-mul-index Inv-loop μ-loop
+mul-index c = omega (arith, few (c .before .before))
+
+add-index : tie.Need-add-index Inv-loop μ-loop
+add-index c = omega (arith, few (c .before .before))
+
+mul-index-2 : tie.Need-mul-index-2 Inv-loop μ-loop
+mul-index-2 c = omega (arith, few (c .before .before))
+
+element-copy-out-index : tie.Need-element-copy-out-index Inv-loop μ-loop
+element-copy-out-index c = omega (arith, few (c .before .before))
+
+index-requires : tie.Need-index-requires Inv-loop μ-loop
+index-requires c κs = search needs
+
+loop-holds : tie.Need-loop-holds Inv-loop μ-loop
+loop-holds c =
+    let d = c .before .before .before .before in
+    let (lent, (subject, rest)) = d .before .pre in
+    let split = d .split-of .ensures .isSplit in
+    rw (c .index .ensures)
+    (along-first (lent .holds .kept) (d .before .args .whole) split (first-row subject (lent .holds .kept) split))
+
+-- the row that the loop is at
+at : (c : tie.After-struct-known3 Inv-loop μ-loop) →
+    let d = c .before .before .before .before .before .before .before in
+    let z = c .before .before .loop .z in
+    RowAt (tableAt (d .before .args .row .now)) (d .before .args .i) z (z % modesMost) (z / modesMost - d .split-of .result .first)
+at c =
+    let d = c .before .before .before .before .before .before .before in
+    row-at (d .split-of .ensures .isSplit) (c .before .before .loop .inv .from) (omega arith)
+
+sub-c : tie.Need-sub-c Inv-loop μ-loop
+sub-c c = omega (arith, c .before .before .loop .inv .from)
+
+row-charge-requires : tie.Need-row-charge-requires Inv-loop μ-loop
+row-charge-requires c κs =
+    let d = c .before .before .before .before .before .before .before in
+    let pre = d .before .pre in
+    (pre .0, (pre .1 .0, (at c .isTask, (c .before .before .loop .inv .charged _ _ (at c) .mode, d .split-of .ensures .isSplit))))
+
+add-index-2 : tie.Need-add-index-2 Inv-loop μ-loop
+add-index-2 c = omega (arith, few (c .before .before .before .before .before .before .before .before))
+
+add-index-3 : tie.Need-add-index-3 Inv-loop μ-loop
+add-index-3 c = omega (arith, few (c .before .before .before .before .before .before .before .before))
+
+mul-index-3 : tie.Need-mul-index-3 Inv-loop μ-loop
+mul-index-3 c = omega (arith, few (c .before .before .before .before .before .before .before .before))
+
+element-copy-out-index-2 : tie.Need-element-copy-out-index-2 Inv-loop μ-loop
+element-copy-out-index-2 c = omega (arith, few (c .before .before .before .before .before .before .before .before))
+
+index-requires-2 : tie.Need-index-requires-2 Inv-loop μ-loop
+index-requires-2 c κs = search needs
+
+loop-less : tie.Need-loop-less Inv-loop μ-loop
+loop-less c =
+    let b = c .before .before .before in
+    let s = b .before .before .before .before .before .before .before .before in
+    let next = next-row (s .pre .1 .0) (at b) (b .before .before .loop .inv .charged _ _ (at b) .mode) in
+    omega (arith, c .index2 .ensures, next .from)
+
+loop-again : tie.Need-loop-again Inv-loop μ-loop
+loop-again c =
+    let b = c .before .before .before in
+    let d = b .before .before .before .before .before .before .before in
+    let (lent, (subject, rest)) = d .before .pre in
+    let along = b .before .before .loop .inv in
+    let next = next-row subject (at b) (along .charged _ _ (at b) .mode) in
+    rw (c .before .before .row-charge .ensures, c .index2 .ensures)
+    (along-next (lent .holds .kept) (d .before .args .whole) (d .split-of .ensures .isSplit) along (at b) next)
+
+returns : tie.Need-returns Inv-loop μ-loop
+returns c =
+    let d = c .before .before .before .before .before .before in
+    let s = d .before in
+    let split = d .split-of .ensures in
+    along-last (s .pre .0 .holds .kept) (s .args .whole) (split .isSplit) (c .before .loop .inv) (omega arith)
+    ∙ ap (greatest (laterOf (s .args .whole)) (tableAt (s .args .row .now)) (s .args .s .u) (s .args .s .a) (s .args .i)) (split .at)
+
+pub greatest-spec : {M : Type 1} → statement M
+greatest-spec =
+    tie.close
+    (tie.spec
+    Inv-loop
+    μ-loop
+    split-of-requires
+    add-end
+    mul-end
+    mul-index
+    add-index
+    mul-index-2
+    element-copy-out-index
+    index-requires
+    loop-holds
+    sub-c
+    row-charge-requires
+    add-index-2
+    add-index-3
+    mul-index-3
+    element-copy-out-index-2
+    index-requires-2
+    loop-less
+    loop-again
+    returns)

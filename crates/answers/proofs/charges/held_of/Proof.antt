@@ -1,0 +1,40 @@
+-- The count of jobs held back stands in its cell. Assumes nothing.
+use borrow.Author.Needs.{needs}
+use mathlib.Core.Path.{_≡_, ap, _∙_}
+use Prim.Native.Nat.{ℕ, _+_, _*_}
+use native.Mathlib.Omega.{arith}
+use lib.ListN.{getD}
+use Rattle.table.specs.Limits.{tasksMost}
+use Rattle.table.specs.Number.{number}
+use Rattle.answers.specs.Work.{tableAt, heldCell}
+use Rattle.answers.proofs.charges.held_of.Statement.{statement}
+use Rattle.answers.proofs.charges.held_of.Tie as tie
+
+place-requires : tie.Need-place-requires
+place-requires c κs = search needs
+
+add-wide : tie.Need-add-wide
+add-wide c = search needs
+
+mul-wide : tie.Need-mul-wide
+mul-wide c = search needs
+
+element-copy-out-wide : tie.Need-element-copy-out-wide
+element-copy-out-wide c = search needs
+
+wide-requires : tie.Need-wide-requires
+wide-requires c κs = search needs
+
+returns : tie.Need-returns
+returns c =
+    let s = c .before .before .before in
+    let a = s .args in
+    let (lent, (candidate, isTask)) = s .pre in
+    let at : heldCell + c .before .before .place .result ≡ heldCell + tasksMost * number (tableAt (a .row .now)) (a .i) (a .c) + a .j =
+    omega (arith, c .before .before .place .ensures .0) in
+    c .wide .ensures ∙ ap (λ (n : ℕ). getD (a .row .now) n 0) at ∙ lent .held (a .i) (a .c) (a .j) candidate isTask
+
+pub held-of-spec : {M : Type 1} → statement M
+held-of-spec =
+    tie.close
+    (tie.spec place-requires add-wide mul-wide element-copy-out-wide wide-requires returns)

@@ -1,0 +1,132 @@
+-- The loop sums what the other transactions before i charge: i is the next of them that has a rival. With the charge of u
+-- the sum stays far below 2 ^ 64. Assumes nothing.
+use borrow.Author.Needs.{needs}
+use mathlib.Core.Path.{_≡_}
+use Prim.Native.Nat.{_+_, _-_, _<_}
+use native.Mathlib.Omega.{arith}
+use lib.ListN.{getD}
+use Rattle.table.specs.Limits.{transactionsMost}
+use Rattle.table.specs.Table.{transactions}
+use Rattle.analysis.specs.Charge.{rivals}
+use Rattle.answers.specs.Links.{NextOther}
+use Rattle.answers.specs.Work.{othersCell, tableAt}
+use Rattle.answers.proofs.Ranges.{rivals-lt}
+use Rattle.answers.proofs.Rows.{Others, others-first, others-few, others-next}
+use Rattle.answers.proofs.charges.rivals.Statement.{statement}
+use Rattle.answers.proofs.charges.rivals.Tie as tie
+
+abbrev Inv-loop : tie.InvT-loop
+Inv-loop row s whole m c t count sum₀ i₀ sum i = Others whole (tableAt row) (s .u) (s .a) (t .0) sum i
+
+abbrev μ-loop : tie.MeasureT-loop
+μ-loop row s whole m c t count sum₀ i₀ sum i = count - i
+
+transactions-requires : tie.Need-transactions-requires Inv-loop μ-loop
+transactions-requires c κs = c .pre .0 .holds
+
+element-copy-out-index : tie.Need-element-copy-out-index Inv-loop μ-loop
+element-copy-out-index c = omega arith
+
+index-requires : tie.Need-index-requires Inv-loop μ-loop
+index-requires c κs = search needs
+
+loop-holds : tie.Need-loop-holds Inv-loop μ-loop
+loop-holds c =
+    let s = c .before .before .before in
+    rw (c .index .ensures) (others-first (s .args .whole) (s .args .t .0) (s .pre .1 .0 .others 0 (omega arith)))
+
+-- the places read lie within the row
+few : (c : tie.After-greatest Inv-loop μ-loop) → c .before .before .loop .i < transactionsMost
+few c =
+    omega (arith, c .before .before .before .before .before .transactions .ensures, c .before .before .before .before .before .before .pre .0 .holds .kept .fewTransactions)
+
+greatest-requires : tie.Need-greatest-requires Inv-loop μ-loop
+greatest-requires c κs =
+    let pre = c .before .before .before .before .before .pre in
+    (pre .0, (pre .1 .0, (omega (arith, c .before .before .before .before .transactions .ensures), pre .1 .1 .1 .1)))
+
+add-sum : tie.Need-add-sum Inv-loop μ-loop
+add-sum c =
+    let s = c .before .before .before .before .before .before .before in
+    let few = others-few (s .args .whole) (s .args .t .0) (c .before .before .before .loop .inv) (s .pre .0 .holds .kept) (s .pre .1 .1 .1 .1) in
+    omega (arith, few (omega (arith, c .before .before .before .before .before .before .transactions .ensures)), c .before .greatest .ensures)
+
+add-index : tie.Need-add-index Inv-loop μ-loop
+add-index c = omega (arith, few (c .before))
+
+add-index-2 : tie.Need-add-index-2 Inv-loop μ-loop
+add-index-2 c = omega (arith, few (c .before))
+
+mul-index : tie.Need-mul-index Inv-loop μ-loop
+mul-index c = omega (arith, few (c .before))
+
+element-copy-out-index-2 : tie.Need-element-copy-out-index-2 Inv-loop μ-loop
+element-copy-out-index-2 c = omega (arith, few (c .before))
+
+-- the link that is read
+next :
+    (c : tie.After-greatest Inv-loop μ-loop)
+    → let s = c .before .before .before .before .before .before in
+    NextOther (tableAt (s .args .row .now)) (s .args .s .u) (s .args .s .a) (c .before .before .loop .i + 1) (getD (s .args .row .now) (othersCell + (c .before .before .loop .i + 1)) 0)
+next c = c .before .before .before .before .before .before .pre .1 .0 .others (c .before .before .loop .i + 1) (omega (arith, c .before .before .before .before .before .transactions .ensures))
+
+index-requires-2 : tie.Need-index-requires-2 Inv-loop μ-loop
+index-requires-2 c κs = search needs
+
+loop-less : tie.Need-loop-less Inv-loop μ-loop
+loop-less c = omega (arith, c .index2 .ensures, next (c .before .before .before) .from)
+
+loop-again : tie.Need-loop-again Inv-loop μ-loop
+loop-again c =
+    let s = c .before .before .before .before .before .before .before .before .before in
+    rw (c .before .before .before .greatest .ensures, c .index2 .ensures)
+    (others-next (s .args .whole) (s .args .t .0) (c .before .before .before .before .before .loop .inv) (next (c .before .before .before)))
+
+split-of-requires : tie.Need-split-of-requires Inv-loop μ-loop
+split-of-requires c κs =
+    let pre = c .before .before .before .before .before .pre in
+    (pre .0 .holds, (pre .1 .1 .0 .owner, pre .1 .1 .1 .1))
+
+charge-requires : tie.Need-charge-requires Inv-loop μ-loop
+charge-requires c κs =
+    let pre = c .before .before .before .before .before .before .pre in
+    (pre .0, (pre .1 .0, (pre .1 .1 .0, (pre .1 .1 .1 .0, c .split-of .ensures .isSplit))))
+
+returns : tie.Need-returns Inv-loop μ-loop
+unfolding rivals
+returns c =
+    let others = c .before .before .before .before .loop .inv in
+    let charged = c .before .charge .ensures in
+    let at = c .before .before .split-of .ensures .at in
+    let all : c .before .before .before .before .loop .i ≡ transactions (tableAt (c .before .before .before .before .before .before .before .before .args .row .now)) = omega (arith, others .within, c .before .before .before .before .before .before .before .transactions .ensures) in
+    cc (others .sum)
+
+add-t23 : tie.Need-add-t23 Inv-loop μ-loop
+add-t23 c =
+    let s = c .before .before .before .before .before .before .before .before in
+    let few = rivals-lt (s .pre .0 .holds .kept) (s .args .whole) (s .pre .1 .1 .1 .1) (s .args .s .u) (s .args .s .a) (s .pre .1 .1 .0 .owner) (s .pre .1 .1 .1 .0) in
+    omega (arith, returns c, few (s .args .c))
+
+pub rivals-spec : {M : Type 1} → statement M
+rivals-spec =
+    tie.close
+    (tie.spec
+    Inv-loop
+    μ-loop
+    transactions-requires
+    element-copy-out-index
+    index-requires
+    loop-holds
+    greatest-requires
+    add-sum
+    add-index
+    add-index-2
+    mul-index
+    element-copy-out-index-2
+    index-requires-2
+    loop-less
+    loop-again
+    split-of-requires
+    charge-requires
+    add-t23
+    returns)

@@ -1,0 +1,52 @@
+-- A row whose ceiling is not above the best is not greater. Assumes nothing.
+use borrow.Author.Needs.{needs}
+use native.Mathlib.Omega.{arith}
+use Rattle.answers.proofs.Split.{charge-ceiling}
+use Rattle.answers.proofs.charges.row_charge.Statement.{statement}
+use Rattle.answers.proofs.charges.row_charge.Tie as tie
+
+few-charge-requires : tie.Need-few-charge-requires
+few-charge-requires c κs =
+    let (lent, (subject, (isTask, (mode, split)))) = c .before .before .pre in
+    (lent, (subject, (isTask, (mode, (split, omega arith)))))
+
+greater-requires : tie.Need-greater-requires
+greater-requires c κs = search needs
+
+returns : tie.Need-returns
+returns c = search needs
+
+ceiling-requires : tie.Need-ceiling-requires
+ceiling-requires c κs = search needs
+
+returns-2 : tie.Need-returns-2
+returns-2 c =
+    let s = c .before .before .before .before in
+    let (lent, (subject, (isTask, (mode, split)))) = s .pre in
+    omega (
+      arith,
+      c .before .ceiling .ensures,
+      charge-ceiling (lent .holds .kept) (s .args .whole) split (s .args .s .u) (s .args .s .a) (s .args .m) (s .args .c),
+    )
+
+charge-requires : tie.Need-charge-requires
+charge-requires c κs = search needs
+
+greater-requires-2 : tie.Need-greater-requires-2
+greater-requires-2 c κs = search needs
+
+returns-3 : tie.Need-returns-3
+returns-3 c = search needs
+
+pub row-charge-spec : {M : Type 1} → statement M
+row-charge-spec =
+    tie.close
+    (tie.spec
+    few-charge-requires
+    greater-requires
+    returns
+    ceiling-requires
+    returns-2
+    charge-requires
+    greater-requires-2
+    returns-3)

@@ -1,0 +1,80 @@
+-- `response` gives a refusal's number and place, or the number for the task of the table that was read.
+use mathlib.Core.Path.{_≡_, sym, _∙_, subst₂}
+use Prim.Native.Nat.{ℕ}
+use denote.Ref.{now}
+use borrow.Author.Needs.{needs}
+use Rattle.table.specs.Table.{Table}
+use Rattle.refusals.specs.declared.Answer.the-variants.{Refused}
+use Rattle.format.specs.Fault.{imageFault}
+use Rattle.format.specs.Fault.{IsAccepted}
+use Rattle.answers.specs.Told.{RespondsFrom, Responds}
+use Rattle.answers.proofs.Told.{read-table, read-lent, place-small}
+use Rattle.answers.proofs.response.Statement.{statement}
+use Rattle.answers.proofs.response.Tie as tie
+
+read-requires : tie.Need-read-requires
+read-requires c κs = search needs
+
+enum-known-answer : tie.Need-enum-known-answer
+enum-known-answer c = search needs
+
+number-requires : tie.Need-number-requires
+number-requires c κs = search needs
+
+-- the answer of reading, by the way that the match goes
+refused :
+    (c : tie.After-answer)
+    → imageFault (now (c .before .before .before .before .args .image)) ≡ Refused (c .answer .given .0 .0) (c .answer .given .0 .1 .0)
+refused c = sym (c .before .before .read .ensures .0) ∙ c .answer .given .1
+
+accepted : (c : tie.After-enum-told) → IsAccepted (now (c .before .before .before .before .args .image))
+accepted c = sym (c .before .before .read .ensures .0) ∙ c .enum-told .given .1
+
+cast-pair : tie.Need-cast-pair
+cast-pair c =
+    let x = c .before .before in
+    record { fits = place-small (now (x .before .before .before .before .args .image)) (refused x) }
+
+pair-requires : tie.Need-pair-requires
+pair-requires c κs = search needs
+
+enum-told : tie.Need-enum-told
+enum-told c = search needs
+
+index-requires : tie.Need-index-requires
+index-requires c κs = search needs
+
+response-of-requires : tie.Need-response-of-requires
+response-of-requires c κs =
+    let x = c .before .before .before .before in
+    let y = x .before .before in
+    read-lent (now (y .before .before .args .image)) (y .read .result .table .cells) (accepted x) (y .read .ensures .1)
+
+returns : tie.Need-returns
+returns c = rw (c .pair .ensures, c .before .number .ensures) (Responds.refused (refused (c .before .before .before)))
+
+returns-2 : tie.Need-returns-2
+returns-2 c =
+    let x = c .before .before .before .before .before in
+    let y = x .before .before in
+    let s = y .before .before .args in
+    Responds.accepted (accepted x)
+    (subst₂ (λ (tab : Table) (k : ℕ). RespondsFrom tab k (s .budget) (c .response-of .result))
+    (read-table (now (s .image)) (y .read .result .table .cells) (accepted x) (y .read .ensures .1))
+    (c .before .index .ensures)
+    (c .response-of .ensures))
+
+pub response-spec : {M : Type 1} → statement M
+response-spec =
+    tie.close
+    (tie.spec
+    read-requires
+    enum-known-answer
+    number-requires
+    cast-pair
+    pair-requires
+    enum-told
+    index-requires
+    response-of-requires
+    returns
+    returns-2)

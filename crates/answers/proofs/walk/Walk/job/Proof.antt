@@ -1,0 +1,127 @@
+-- `Walk::job` meets its contract: the chain of the N-th job stays within the busy time, and its end with its response is
+-- what one step of the definition's walk gives.
+use borrow.Author.Needs.{needs}
+use mathlib.Core.Path.{_≡_, refl, sym, ap, subst, _∙_}
+use denote.Ref.{now}
+use Prim.Native.Nat.{_-_, _≤_, max}
+use native.Mathlib.Nat.{le-trans}
+use native.Mathlib.Omega.{arith}
+use Rattle.table.specs.Table.{Table}
+use Rattle.periods.specs.Charge.{imposed}
+use Rattle.analysis.specs.Choice.{count}
+use Rattle.analysis.specs.Bound.{demand, response}
+use Rattle.analysis.specs.Needed.{job}
+use Rattle.analysis.specs.Walk.{walkJobs}
+use Rattle.answers.specs.Turn.{Near, Reaches, walked}
+use Rattle.answers.specs.Lent.{longest}
+use Rattle.answers.specs.Work.{tableAt}
+use Rattle.answers.specs.declared.walk.Walked.the-variants.{Through}
+use Rattle.answers.proofs.Chain.{Comes}
+use Rattle.answers.proofs.Turns.{turn-first, turn-period, turn-phase, turn-offset, turn-job, turn-response, jobs-few, job-near, lasts-reaches, reaches-comes}
+use Rattle.answers.proofs.Walks.{afterStop, jobStop, job-walked}
+use Rattle.answers.proofs.walk.Walk.job.Statement.{statement}
+use Rattle.answers.proofs.walk.Walk.job.Tie as tie
+
+job-requires : tie.Need-job-requires
+job-requires c κs =
+    let (lent, (subject, (turn, (lasts, (l, within))))) = c .before .pre in
+    (turn-first (lent .holds .kept) (subject .chosen .isTask) turn, omega (arith, l, lasts .jobs, jobs-few (lent .holds .kept) (subject .chosen .isTask) (c .before .args .x .candidate) (lasts .within)))
+
+abbrev tab : tie.Start → Table
+tab c = tableAt (now (c .args .row))
+
+-- the job's number
+number : (c : tie.After-job) → let d = c .before .before in let a = d .args in c .job .result .0 ≡ job (tab d) (a .s .u) (a .s .a) (a .x .candidate) (a .n)
+number c =
+    let (lent, (subject, (turn, (lasts, (l, within))))) = c .before .before .pre in
+    c .job .ensures ∙ turn-job (lent .holds .kept) (subject .chosen .isTask) turn (c .before .before .args .n)
+
+near : (c : tie.After-job) → Near (c .job .result .0)
+near c =
+    let (lent, (subject, (turn, (lasts, (l, within))))) = c .before .before .pre in
+    rw (number c) (job-near (lent .holds .kept) (subject .chosen .isTask) (c .before .before .args .x .candidate) (lasts .within) (rw (lasts .jobs) at l))
+
+reaches : (c : tie.After-job) → let d = c .before .before in let a = d .args in Reaches (tab d) (a .s .u) (a .s .a) (a .x .mode) (a .x .candidate) (c .job .result .0)
+reaches c =
+    let (lent, (subject, (turn, (lasts, (l, within))))) = c .before .before .pre in
+    rw (number c) (lasts-reaches (lent .holds .kept) (subject .chosen .isTask) lasts l)
+
+job-chain-requires : tie.Need-job-chain-requires
+job-chain-requires c κs =
+    let (lent, (subject, (turn, (lasts, (l, within))))) = c .before .before .pre in
+    (lent, (subject, (turn, (near c, (reaches c, within)))))
+
+enum-known-w : tie.Need-enum-known-w
+enum-known-w c = search needs
+
+-- one step of the walk, by how the chain stopped
+step : (c : tie.After-job-chain) → let d = c .before .before .before in let a = d .args in walked (a .budget) (walkJobs imposed (tab d) (a .s .u) (a .s .a) (a .x .mode) (a .x .candidate) 1 (a .n) (a .budget - a .self .used) (a .self .best)) ≡ afterStop (λ w used. Through (record { used = used; best = max (a .self .best) (count (response (tab d) (a .s .u) (a .s .a) (a .x .candidate) (job (tab d) (a .s .u) (a .s .a) (a .x .candidate) (a .n)) (w .0))) })) (c .job-chain .result)
+step c =
+    let d = c .before .before .before in
+    let a = d .args in
+    let stop : c .job-chain .result ≡ jobStop imposed (tab d) (a .s .u) (a .s .a) (a .x .mode) (a .x .candidate) (a .budget) (a .n) (a .budget - a .self .used) = rw (number (c .before)) at (c .job-chain .ensures) in
+    rw stop (job-walked imposed (tab d) (a .s .u) (a .s .a) (a .x .mode) (a .x .candidate) (a .budget) (a .n) (a .budget - a .self .used) (a .self .best))
+
+-- where t came back it is within the horizon
+short : (c : tie.After-w) → c .w .given .0 .0 .0 ≤ longest
+short c =
+    let d = c .before .before .before in
+    let s = d .before .before in
+    let (lent, (subject, (turn, (lasts, (l, within))))) = s .pre in
+    let a = s .args in
+    let r = reaches d in
+    let stop = sym (c .before .before .job-chain .ensures) ∙ c .w .given .1 in
+    let back = subst (Comes (a .budget) (λ w. (w ≤ r .t) × (demand imposed (tab s) (a .s .u) (a .s .a) (a .x .mode) (a .x .candidate) (d .job .result .0) w ≡ w))) stop (reaches-comes (lent .holds .kept) (subject .chosen .isTask) r (a .budget) (a .budget - a .self .used)) in
+    le-trans (back .0 .0) (r .within)
+
+response-requires : tie.Need-response-requires
+response-requires c κs =
+    let d = c .before .before .before .before in
+    let (lent, (subject, (turn, (lasts, (l, within))))) = d .before .before .pre in
+    let phase = turn-phase (lent .holds .kept) (subject .chosen .isTask) turn in
+    let period = turn-period (lent .holds .kept) (subject .chosen .isTask) turn in
+    (period, (omega arith, (turn-offset (lent .holds .kept) (subject .chosen .isTask) turn, (near d, short (c .before)))))
+
+greater-requires : tie.Need-greater-requires
+greater-requires c κs = search needs
+
+enum-known-used : tie.Need-enum-known-used
+enum-known-used c = search needs
+
+enum-told : tie.Need-enum-told
+enum-told c = search needs
+
+-- the response of the job
+answer : (c : tie.After-response) → let d = c .before .before .before .before .before .before .before in let a = d .args in c .response .result ≡ count (response (tab d) (a .s .u) (a .s .a) (a .x .candidate) (job (tab d) (a .s .u) (a .s .a) (a .x .candidate) (a .n)) (c .before .before .w .given .0 .0 .0))
+answer c =
+    let d = c .before .before .before .before .before in
+    let (lent, (subject, (turn, (lasts, (l, within))))) = d .before .before .pre in
+    rw (← (number d), ← (turn-response (lent .holds .kept) (subject .chosen .isTask) turn (d .job .result .0) (c .before .before .w .given .0 .0 .0))) (c .response .ensures)
+
+returns : tie.Need-returns
+returns c =
+    let k = c .before .before .before in
+    let d = k .before .before in
+    let best = c .greater .ensures ∙ ap (max (d .before .before .before .args .self .best)) (answer (c .before)) in
+    rw (best, step d, k .w .given .1) refl
+
+returns-2 : tie.Need-returns-2
+returns-2 c = rw (step (c .before .before .before), c .before .used .given .1) refl
+
+returns-3 : tie.Need-returns-3
+returns-3 c = rw (step (c .before .before), c .enum-told .given .1) refl
+
+pub job-spec : {M : Type 1} → statement M
+job-spec =
+    tie.close
+    (tie.spec
+    job-requires
+    job-chain-requires
+    enum-known-w
+    response-requires
+    greater-requires
+    enum-known-used
+    enum-told
+    returns
+    returns-2
+    returns-3)

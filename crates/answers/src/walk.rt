@@ -1,0 +1,248 @@
+// The walk of one task: its modes, in each its candidates, and for each the L chain and then the jobs, lowest first. The
+// state goes in by value and comes back, with the count of evaluations and the greatest response so far.
+use super::chains;
+use super::chains::Stop;
+use super::chains::Turn;
+use super::charges::Subject;
+use super::charges::greater;
+use super::layout::Work;
+use super::links;
+use super::quantity::JobNumber;
+use super::quantity::Moment;
+use super::quantity::Ticks;
+use super::reads;
+ghost use mathlib.Core.Path.{_≡_};
+ghost use lib.IntN.{pos, _+ℤ_, _-ℤ_, _*ℤ_};
+ghost use Prim.Native.Nat.{_-_, _<_, _≤_, _^_};
+ghost use Rattle.table.specs.Table.{modes, tasks};
+ghost use Rattle.periods.specs.Charge.{imposed};
+ghost use Rattle.analysis.specs.Choice.{count};
+ghost use Rattle.analysis.specs.Rival.{Runs, candidate?};
+ghost use Rattle.analysis.specs.Bound.{Setting};
+ghost use Rattle.analysis.specs.Order.{walkOrder};
+ghost use Rattle.analysis.specs.Walk.{walkJobs, walkTurn, walkTurns};
+ghost use Rattle.answers.specs.Lent.{tested, longest};
+ghost use Rattle.answers.specs.Turn.{IsTurn, Near, Lasts, walked, turnsFrom, modeTurns};
+ghost use Rattle.answers.specs.Work.{Lent, IsSubject, tableAt};
+
+// The evaluations made so far, and the greatest response so far.
+pub(crate) struct Walk {
+    pub(crate) used: u32,
+    pub(crate) best: u64,
+}
+
+// How far a walk came: through, past the horizon, or short of budget.
+pub(crate) enum Walked {
+    Through(Walk),
+    Past(u32),
+    Broke,
+}
+
+// The arrival of job p, F + (p − 1)·T: here ticks and job numbers are joined.
+fn arrival(period: Ticks, phase: Ticks, p: JobNumber) -> Moment
+    requires { ⌜ period .0 < 2 ^ 24 ⌝ }
+    requires { ⌜ phase .0 < 2 ^ 24 ⌝ }
+    requires { ⌜ Near (p .0) ⌝ }
+    ensures { λ r. ⌜ r .0 ≡ pos (phase .0) +ℤ (p .0 -ℤ pos 1) *ℤ pos (period .0) ⌝ }
+{
+    Moment(phase.0 as i64 + (p.0 - 1) * period.0 as i64)
+}
+
+// The response of job p that completes at w, cut at 0.
+fn response(x: Turn, p: JobNumber, w: Ticks) -> u64
+    requires { ⌜ x .period .0 < 2 ^ 24 ⌝ }
+    requires { ⌜ x .phase .0 < 2 ^ 24 ⌝ }
+    requires { ⌜ x .offset .0 < 2 ^ 24 ⌝ }
+    requires { ⌜ Near (p .0) ⌝ }
+    requires { ⌜ w .0 ≤ longest ⌝ }
+    ensures { λ r. ⌜ r ≡ count (pos (w .0) -ℤ (pos (x .phase .0) +ℤ (p .0 -ℤ pos 1) *ℤ pos (x .period .0)) +ℤ pos (x .offset .0)) ⌝ }
+{
+    let period = x.period;
+    let phase = x.phase;
+    let since = w.0 as i64 - arrival(period, phase, p).0 + x.offset.0 as i64;
+    if since < 0 {
+        return 0;
+    }
+    since as u64
+}
+
+// The N-th job counted from the first.
+fn job(first: JobNumber, n: u64) -> JobNumber
+    requires { ⌜ Near (first .0) ⌝ }
+    requires { ⌜ n < 2 ^ 26 ⌝ }
+    ensures { λ r. ⌜ r .0 ≡ first .0 +ℤ pos n ⌝ }
+{
+    JobNumber(first.0 + n as i64)
+}
+
+// Whether task c is a candidate of the subject in mode m.
+fn is_candidate(row: &[u32; Work::CELLS], s: Subject, m: usize, c: usize) -> bool
+    requires { ⌜ Lent (now row) ⌝ }
+    requires { ⌜ IsSubject (now row) s ⌝ }
+    requires { ⌜ m < modes (tableAt (now row)) (s .u) ⌝ }
+    requires { ⌜ c < tasks (tableAt (now row)) (s .u) ⌝ }
+    ensures { λ r. ⌜ r ≡ tested (candidate? (tableAt (now (row .entry))) (s .u) (s .a) m c) ⌝ }
+{
+    if c == s.a {
+        return true;
+    }
+    if links::weight(row, s, s.u, m, c) == 0 {
+        return false;
+    }
+    true
+}
+
+impl Walk {
+    pub(crate) fn new() -> Walk
+        ensures { λ r. ⌜ (r .used ≡ 0) × (r .best ≡ 0) ⌝ }
+    {
+        Walk { used: 0, best: 0 }
+    }
+
+    // One job: its chain, and its response.
+    fn job(
+        self,
+        row: &[u32; Work::CELLS],
+        s: Subject,
+        x: Turn,
+        n: u64,
+        jobs: u64,
+        budget: u32,
+    ) -> Walked
+        requires { ⌜ Lent (now row) ⌝ }
+        requires { ⌜ IsSubject (now row) s ⌝ }
+        requires { ⌜ IsTurn (tableAt (now row)) (s .u) (s .a) (x .mode) (x .candidate) x ⌝ }
+        requires { ⌜ Lasts (tableAt (now row)) (s .u) (s .a) (x .mode) (x .candidate) jobs ⌝ }
+        requires { ⌜ n < jobs ⌝ }
+        requires { ⌜ self .used ≤ budget ⌝ }
+        ensures { λ r. ⌜ r ≡ walked budget (walkJobs imposed (tableAt (now (row .entry))) (s .u) (s .a) (x .mode) (x .candidate) 1 n (budget - self .used) (self .best)) ⌝ }
+    {
+        let first = x.first;
+        let p = job(first, n);
+        match chains::job_chain(row, s, x, p, budget, self.used) {
+            Stop::Came(w, used) => Walked::Through(Walk {
+                used,
+                best: greater(self.best, response(x, p, w)),
+            }),
+            Stop::Over(used) => Walked::Past(used),
+            Stop::Short => Walked::Broke,
+        }
+    }
+
+    // The jobs of one turn, lowest first.
+    fn jobs(self, row: &[u32; Work::CELLS], s: Subject, x: Turn, jobs: u64, budget: u32) -> Walked
+        requires { ⌜ Lent (now row) ⌝ }
+        requires { ⌜ IsSubject (now row) s ⌝ }
+        requires { ⌜ IsTurn (tableAt (now row)) (s .u) (s .a) (x .mode) (x .candidate) x ⌝ }
+        requires { ⌜ Lasts (tableAt (now row)) (s .u) (s .a) (x .mode) (x .candidate) jobs ⌝ }
+        requires { ⌜ self .used ≤ budget ⌝ }
+        ensures { λ r. ⌜ r ≡ walked budget (walkJobs imposed (tableAt (now (row .entry))) (s .u) (s .a) (x .mode) (x .candidate) jobs 0 (budget - self .used) (self .best)) ⌝ }
+    {
+        let mut state = self;
+        let mut n: u64 = 0;
+        while n < jobs {
+            let step = state.job(row, s, x, n, jobs, budget);
+            let Walked::Through(next) = step else {
+                return step;
+            };
+            state = next;
+            n += 1;
+        }
+        Walked::Through(state)
+    }
+
+    // One turn: the L chain, then the jobs.
+    fn turn(self, row: &[u32; Work::CELLS], s: Subject, m: usize, c: usize, budget: u32) -> Walked
+        requires { ⌜ Lent (now row) ⌝ }
+        requires { ⌜ IsSubject (now row) s ⌝ }
+        requires { ⌜ Setting (tableAt (now row)) (s .u) (s .a) m c ⌝ }
+        requires { ⌜ self .used ≤ budget ⌝ }
+        ensures { λ r. ⌜ r ≡ walked budget (walkTurn imposed (tableAt (now (row .entry))) (s .u) (s .a) (record { mode = m; candidate = c }) (budget - self .used) (self .best)) ⌝ }
+    {
+        let x = chains::turn_of(row, s, m, c);
+        match chains::busy_chain(row, s, x, budget, self.used) {
+            Stop::Came(length, used) => {
+                let period = x.period;
+                let phase = x.phase;
+                let first = x.first;
+                let jobs = chains::jobs_to(first, chains::last_job(period, phase, length));
+                Walk {
+                    used,
+                    best: self.best,
+                }.jobs(row, s, x, jobs, budget)
+            }
+            Stop::Over(used) => Walked::Past(used),
+            Stop::Short => Walked::Broke,
+        }
+    }
+
+    // The turn of c, if it is a candidate.
+    fn candidate(
+        self,
+        row: &[u32; Work::CELLS],
+        s: Subject,
+        m: usize,
+        c: usize,
+        budget: u32,
+    ) -> Walked
+        requires { ⌜ Lent (now row) ⌝ }
+        requires { ⌜ IsSubject (now row) s ⌝ }
+        requires { ⌜ m < modes (tableAt (now row)) (s .u) ⌝ }
+        requires { ⌜ Runs (tableAt (now row)) (s .u) m (s .a) ⌝ }
+        requires { ⌜ c < tasks (tableAt (now row)) (s .u) ⌝ }
+        requires { ⌜ self .used ≤ budget ⌝ }
+        ensures { λ r. ⌜ r ≡ walked budget (walkTurns imposed (tableAt (now (row .entry))) (s .u) (s .a) (turnsFrom (tableAt (now (row .entry))) (s .u) (s .a) m c 1) (budget - self .used) (self .best)) ⌝ }
+    {
+        if is_candidate(row, s, m, c) {
+            self.turn(row, s, m, c, budget)
+        } else {
+            Walked::Through(self)
+        }
+    }
+
+    // The candidates of one mode, in image order.
+    fn mode(self, row: &[u32; Work::CELLS], s: Subject, m: usize, budget: u32) -> Walked
+        requires { ⌜ Lent (now row) ⌝ }
+        requires { ⌜ IsSubject (now row) s ⌝ }
+        requires { ⌜ m < modes (tableAt (now row)) (s .u) ⌝ }
+        requires { ⌜ self .used ≤ budget ⌝ }
+        ensures { λ r. ⌜ r ≡ walked budget (walkTurns imposed (tableAt (now (row .entry))) (s .u) (s .a) (modeTurns (tableAt (now (row .entry))) (s .u) (s .a) m) (budget - self .used) (self .best)) ⌝ }
+    {
+        if reads::time(row, s.u, m, s.a) == 0 {
+            return Walked::Through(self);
+        }
+        let count = reads::tasks(row, s.u);
+        let mut state = self;
+        let mut c: usize = 0;
+        while c < count {
+            let step = state.candidate(row, s, m, c, budget);
+            let Walked::Through(next) = step else {
+                return step;
+            };
+            state = next;
+            c += 1;
+        }
+        Walked::Through(state)
+    }
+
+    // The whole walk: the modes in ascending order.
+    pub(crate) fn modes(self, row: &[u32; Work::CELLS], s: Subject, budget: u32) -> Walked
+        requires { ⌜ Lent (now row) ⌝ }
+        requires { ⌜ IsSubject (now row) s ⌝ }
+        requires { ⌜ self .used ≤ budget ⌝ }
+        ensures { λ r. ⌜ r ≡ walked budget (walkTurns imposed (tableAt (now (row .entry))) (s .u) (s .a) (walkOrder (tableAt (now (row .entry))) (s .u) (s .a)) (budget - self .used) (self .best)) ⌝ }
+    {
+        let count = reads::modes(row, s.u);
+        let mut state = self;
+        let mut m: usize = 0;
+        while m < count {
+            let step = state.mode(row, s, m, budget);
+            let Walked::Through(next) = step else {
+                return step;
+            };
+            state = next;
+            m += 1;
+        }
+        Walked::Through(state)
+    }
+}

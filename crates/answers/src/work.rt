@@ -1,0 +1,275 @@
+// Filling the working row: the table's row with its phases and held-back jobs once for a table, and the weights with their
+// sums once for each task under analysis. What is read of the table comes from its own row at first, and then from the
+// working row.
+use super::charges::Subject;
+use super::layout::Work;
+use super::reads;
+use row::Table;
+use row::Task;
+use row::Transaction;
+ghost use mathlib.Core.Path.{_≡_};
+ghost use Prim.Native.Nat.{_+_, _*_, _<_, _^_};
+ghost use lib.ListN.{length, take};
+ghost use Rattle.table.specs.Table.{IsTask, transactions, modes};
+ghost use Rattle.table.specs.Limits.{modesMost};
+ghost use Rattle.table.specs.Number.{before, inAll};
+ghost use Rattle.row.specs.Row.{rowCells, tableOf};
+ghost use Rattle.periods.specs.Phase.{phase};
+ghost use Rattle.analysis.specs.Charge.{phaseOf, heldOf};
+ghost use Rattle.answers.specs.Work.{workCells, weightsCell, Holds, Lent, Chosen, Weighs, tableAt};
+ghost use Rattle.answers.specs.Weight.{weight, heldBack};
+ghost use Rattle.answers.specs.Parts.{RowOfTable, SameTo, IsSubjectAt, Phased, TasksOf, Loaded, WeighedTo};
+
+// (offset − instant) mod period
+fn phase(period: u32, offset: u32, instant: u32) -> u32
+    requires { ⌜ 0 < period ⌝ }
+    requires { ⌜ period < 2 ^ 24 ⌝ }
+    ensures { λ r. ⌜ r ≡ phase period offset instant ⌝ }
+{
+    let from = instant % period;
+    let to = offset % period;
+    if from <= to {
+        to - from
+    } else {
+        to + (period - from)
+    }
+}
+
+// The task with number k.
+pub(crate) fn task(table: &[u32; Table::CELLS], k: usize) -> Subject
+    requires { ⌜ RowOfTable (now table) ⌝ }
+    requires { ⌜ k < inAll (tableOf (now table)) ⌝ }
+    ensures { λ r. ⌜ IsSubjectAt (tableOf (now (table .entry))) k r ⌝ }
+{
+    let u = reads::index(Table::cell(
+        table,
+        Table::TASKS_CELL + k * Task::CELLS + Task::OWNER_CELL,
+    ));
+    let a = k - reads::index(Table::first(table, u));
+    Subject {
+        u,
+        a,
+        priority: Table::priority(table, u, a),
+    }
+}
+
+// Phase of task j when candidate c sets the critical instant.
+fn phase_of(table: &[u32; Table::CELLS], i: usize, c: usize, j: usize) -> u32
+    requires { ⌜ RowOfTable (now table) ⌝ }
+    requires { ⌜ IsTask (tableOf (now table)) i c ⌝ }
+    ensures { λ r. ⌜ r ≡ phaseOf (tableOf (now (table .entry))) i c j ⌝ }
+{
+    phase(
+        Table::period(table, i),
+        Table::offset(table, i, j),
+        Table::offset(table, i, c) + Table::jitter(table, i, c),
+    )
+}
+
+// Jobs of task j held back to the instant.
+fn held_of(table: &[u32; Table::CELLS], i: usize, c: usize, j: usize) -> u32
+    requires { ⌜ RowOfTable (now table) ⌝ }
+    requires { ⌜ IsTask (tableOf (now table)) i c ⌝ }
+    requires { ⌜ IsTask (tableOf (now table)) i j ⌝ }
+    ensures { λ r. ⌜ r ≡ heldOf (tableOf (now (table .entry))) i c j ⌝ }
+{
+    (Table::jitter(table, i, j) + phase_of(table, i, c, j)) / Table::period(table, i)
+}
+
+fn copy(table: &[u32; Table::CELLS], work: &mut [u32; Work::CELLS])
+    requires { ⌜ RowOfTable (now table) ⌝ }
+    requires { ⌜ length (now work) ≡ workCells ⌝ }
+    ensures { λ _. ⌜ length (now (work .exit)) ≡ workCells ⌝ }
+    ensures { λ _. ⌜ take rowCells (now (work .exit)) ≡ take rowCells (now (table .entry)) ⌝ }
+{
+    let mut at: usize = 0;
+    while at < Table::CELLS {
+        work[at] = table[at];
+        at += 1;
+    }
+}
+
+// The phases, and the jobs held back, of candidate number k.
+fn put_phases(table: &[u32; Table::CELLS], work: &mut [u32; Work::CELLS], k: usize)
+    requires { ⌜ RowOfTable (now table) ⌝ }
+    requires { ⌜ length (now work) ≡ workCells ⌝ }
+    requires { ⌜ k < inAll (tableOf (now table)) ⌝ }
+    requires { ⌜ Phased (tableOf (now table)) k (now work) ⌝ }
+    ensures { λ _. ⌜ Phased (tableOf (now (table .entry))) (k + 1) (now (work .exit)) ⌝ }
+    ensures { λ _. ⌜ SameTo rowCells (now (work .entry)) (now (work .exit)) ⌝ }
+{
+    let x = task(table, k);
+    let i = x.u;
+    let c = x.a;
+    let count = reads::index(Table::tasks(table, i));
+    let mut j: usize = 0;
+    while j < count {
+        work[Work::PHASES + Transaction::TASKS * k + j] = phase_of(table, i, c, j);
+        work[Work::HELD + Transaction::TASKS * k + j] = held_of(table, i, c, j);
+        j += 1;
+    }
+}
+
+fn phases(table: &[u32; Table::CELLS], work: &mut [u32; Work::CELLS])
+    requires { ⌜ RowOfTable (now table) ⌝ }
+    requires { ⌜ length (now work) ≡ workCells ⌝ }
+    ensures { λ _. ⌜ Phased (tableOf (now (table .entry))) (inAll (tableOf (now (table .entry)))) (now (work .exit)) ⌝ }
+    ensures { λ _. ⌜ SameTo rowCells (now (work .entry)) (now (work .exit)) ⌝ }
+{
+    let count = reads::index(Table::in_all(table));
+    let mut k: usize = 0;
+    while k < count {
+        put_phases(table, work, k);
+        k += 1;
+    }
+}
+
+// The working row of a table, once for all its tasks.
+pub(crate) fn prepare(table: &[u32; Table::CELLS], work: &mut [u32; Work::CELLS])
+    requires { ⌜ RowOfTable (now table) ⌝ }
+    requires { ⌜ length (now work) ≡ workCells ⌝ }
+    ensures { λ _. ⌜ Lent (now (work .exit)) ⌝ }
+    ensures { λ _. ⌜ tableAt (now (work .exit)) ≡ tableOf (now (table .entry)) ⌝ }
+{
+    copy(table, work);
+    phases(table, work);
+}
+
+// The time of task j, number k, in mode m where it is a rival of the subject, else 0.
+fn weight(work: &[u32; Work::CELLS], s: Subject, i: usize, m: usize, j: usize, k: usize) -> u32
+    requires { ⌜ Holds (now work) ⌝ }
+    requires { ⌜ Chosen (tableAt (now work)) s ⌝ }
+    requires { ⌜ IsTask (tableAt (now work)) i j ⌝ }
+    requires { ⌜ m < modes (tableAt (now work)) i ⌝ }
+    requires { ⌜ k ≡ before (tableAt (now work)) i + j ⌝ }
+    ensures { λ r. ⌜ r ≡ weight (tableAt (now (work .entry))) (s .u) (s .a) i m j ⌝ }
+{
+    let cell = Table::TASKS_CELL + k * Task::CELLS;
+    if work[cell + Task::PRIORITY_CELL] < s.priority {
+        return 0;
+    }
+    if i == s.u {
+        if j == s.a {
+            return 0;
+        }
+    }
+    work[cell + (Task::TIMES_CELL + m)]
+}
+
+// The weights of transaction i in mode m, and its load.
+fn put_weights(
+    work: &mut [u32; Work::CELLS],
+    s: Subject,
+    i: usize,
+    m: usize,
+    first: usize,
+    count: usize,
+)
+    requires { ⌜ Lent (now work) ⌝ }
+    requires { ⌜ Chosen (tableAt (now work)) s ⌝ }
+    requires { ⌜ TasksOf (tableAt (now work)) i first count ⌝ }
+    requires { ⌜ m < modes (tableAt (now work)) i ⌝ }
+    requires { ⌜ WeighedTo (tableAt (now work)) (s .u) (s .a) (modesMost * i + m) (now work) ⌝ }
+    ensures { λ _. ⌜ SameTo weightsCell (now (work .entry)) (now (work .exit)) ⌝ }
+    ensures { λ _. ⌜ WeighedTo (tableAt (now (work .entry))) (s .u) (s .a) (modesMost * i + m) (now (work .exit)) ⌝ }
+    ensures { λ _. ⌜ Loaded (tableAt (now (work .entry))) (s .u) (s .a) i m (now (work .exit)) ⌝ }
+{
+    let mut load: u32 = 0;
+    let mut j: usize = 0;
+    while j < count {
+        let weight = weight(&*work, s, i, m, j, first + j);
+        work[Work::WEIGHTS + Table::TASKS * m + (first + j)] = weight;
+        load += weight;
+        j += 1;
+    }
+    work[Work::LOADS + Transaction::MODES * i + m] = load;
+}
+
+// What the jobs held back to candidate c's instant weigh, from the cells of the row.
+fn held_back(
+    work: &[u32; Work::CELLS],
+    s: Subject,
+    i: usize,
+    m: usize,
+    first: usize,
+    count: usize,
+    c: usize,
+) -> u64
+    requires { ⌜ Lent (now work) ⌝ }
+    requires { ⌜ TasksOf (tableAt (now work)) i first count ⌝ }
+    requires { ⌜ m < modes (tableAt (now work)) i ⌝ }
+    requires { ⌜ Loaded (tableAt (now work)) (s .u) (s .a) i m (now work) ⌝ }
+    requires { ⌜ c < count ⌝ }
+    ensures { λ r. ⌜ r ≡ heldBack (tableAt (now (work .entry))) (s .u) (s .a) i m c ⌝ }
+{
+    let mut held: u64 = 0;
+    let mut j: usize = 0;
+    while j < count {
+        held += reads::wide(work[Work::HELD + Transaction::TASKS * (first + c) + j])
+            * reads::wide(work[Work::WEIGHTS + Table::TASKS * m + (first + j)]);
+        j += 1;
+    }
+    held
+}
+
+// The held-back sums of the candidates of transaction i in mode m, each with its lower half first.
+fn put_sums(
+    work: &mut [u32; Work::CELLS],
+    s: Subject,
+    i: usize,
+    m: usize,
+    first: usize,
+    count: usize,
+)
+    requires { ⌜ Lent (now work) ⌝ }
+    requires { ⌜ TasksOf (tableAt (now work)) i first count ⌝ }
+    requires { ⌜ m < modes (tableAt (now work)) i ⌝ }
+    requires { ⌜ WeighedTo (tableAt (now work)) (s .u) (s .a) (modesMost * i + m) (now work) ⌝ }
+    requires { ⌜ Loaded (tableAt (now work)) (s .u) (s .a) i m (now work) ⌝ }
+    ensures { λ _. ⌜ SameTo weightsCell (now (work .entry)) (now (work .exit)) ⌝ }
+    ensures { λ _. ⌜ WeighedTo (tableAt (now (work .entry))) (s .u) (s .a) (modesMost * i + (m + 1)) (now (work .exit)) ⌝ }
+{
+    let mut c: usize = 0;
+    while c < count {
+        let held = held_back(&*work, s, i, m, first, count, c);
+        let at = Work::SUMS + 2 * (Transaction::MODES * (first + c) + m);
+        work[at] = (held % 4_294_967_296) as u32;
+        work[at + 1] = (held / 4_294_967_296) as u32;
+        c += 1;
+    }
+}
+
+fn weigh_transaction(work: &mut [u32; Work::CELLS], s: Subject, i: usize)
+    requires { ⌜ Lent (now work) ⌝ }
+    requires { ⌜ Chosen (tableAt (now work)) s ⌝ }
+    requires { ⌜ i < transactions (tableAt (now work)) ⌝ }
+    requires { ⌜ WeighedTo (tableAt (now work)) (s .u) (s .a) (modesMost * i) (now work) ⌝ }
+    ensures { λ _. ⌜ SameTo weightsCell (now (work .entry)) (now (work .exit)) ⌝ }
+    ensures { λ _. ⌜ WeighedTo (tableAt (now (work .entry))) (s .u) (s .a) (modesMost * (i + 1)) (now (work .exit)) ⌝ }
+{
+    let first = reads::before(&*work, i);
+    let count = reads::tasks(&*work, i);
+    let modes = reads::modes(&*work, i);
+    let mut m: usize = 0;
+    while m < modes {
+        put_weights(work, s, i, m, first, count);
+        put_sums(work, s, i, m, first, count);
+        m += 1;
+    }
+}
+
+// The weights of the task under analysis, in a working row of the table.
+pub(crate) fn weigh(work: &mut [u32; Work::CELLS], s: Subject)
+    requires { ⌜ Lent (now work) ⌝ }
+    requires { ⌜ Chosen (tableAt (now work)) s ⌝ }
+    ensures { λ _. ⌜ Lent (now (work .exit)) ⌝ }
+    ensures { λ _. ⌜ tableAt (now (work .exit)) ≡ tableAt (now (work .entry)) ⌝ }
+    ensures { λ _. ⌜ Weighs (now (work .exit)) s ⌝ }
+{
+    let count = reads::transactions(&*work);
+    let mut i: usize = 0;
+    while i < count {
+        weigh_transaction(work, s, i);
+        i += 1;
+    }
+}
