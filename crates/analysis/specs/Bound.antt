@@ -83,3 +83,9 @@ pub record Bound (later : Later) (tab : Table) (u a R : ℕ) : Type 0 where
   pub within : (m c : ℕ) → Setting tab u a m c → Within tab u a m c
   pub attained : Attained later tab u a (pos R)
   pub greatest : (m c : ℕ) (p r : ℤ) → Setting tab u a m c → Response later tab u a m c p r → r ≤ℤ pos R
+
+-- No bound is above the one that charges whole jobs: the whole-job bound exists and is not below R
+pub record Tight (tab : Table) (u a R : ℕ) : Type 0 where
+  pub whole : ℕ
+  pub isBound : Bound released tab u a whole
+  pub tight : R ≤ whole

@@ -5,7 +5,7 @@ use Prim.Native.Nat.{ℕ, zero, suc, max, _≤_, _<_}
 use native.Mathlib.Decide.{decLe, decLt}
 use native.Mathlib.Omega.{arith}
 use Rattle.table.specs.Table.{Table, IsTask, transactions, tasks, priority}
-use Rattle.analysis.specs.Run.{Slot, idle, job, Run}
+use Rattle.runs.specs.Run.{Slot, idle, job, Run}
 
 unfoldable pub choose : {A : Type 0} → Dec A → Slot → Slot → Slot
 choose (yes a) s r = s

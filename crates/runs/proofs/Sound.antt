@@ -13,22 +13,22 @@ use Rattle.periods.specs.Charge.{imposed, released}
 use Rattle.periods.proofs.Congruence.{Steps}
 use Rattle.periods.proofs.Charge.{rel, released-is}
 use Rattle.periods.proofs.Slide.{slide-own}
 use Rattle.analysis.specs.Choice.{unless}
 use Rattle.analysis.specs.Rival.{Runs, runs?, Candidate}
 use Rattle.analysis.specs.Charge.{Later, phaseOf, heldOf, taskCharge, greatest, rivals}
 use Rattle.analysis.specs.Bound.{Setting, lastJob, jobsTo, demand, busy}
 use Rattle.analysis.specs.Needed.{job}
-use Rattle.analysis.specs.Run.{Run, Finished, eventTick, arrival, served}
-use Rattle.analysis.specs.Legal.{Rules, Backlog, Holds, HoldsWidely}
-use Rattle.analysis.specs.Promise.{Safe}
+use Rattle.runs.specs.Run.{Run, Finished, eventTick, arrival, served}
+use Rattle.runs.specs.Legal.{Rules, Backlog, Holds, HoldsWidely}
+use Rattle.runs.specs.Promise.{Safe}
 use Rattle.analysis.proofs.Choice.{unless-no}
 use Rattle.analysis.proofs.Bounds.{JobBound, CandidateBound, Bounds}
 use Rattle.analysis.proofs.Join.{demand-job, jobs-by, busy-jobs}
-use Rattle.analysis.proofs.Apart.{apart-le, apart-lt}
-use Rattle.analysis.proofs.Jobs.{counted}
-use Rattle.analysis.proofs.Task.{served-le, served-mono}
-use Rattle.analysis.proofs.Busy.{PeriodsPositive, Window, window, levelTook, reach, complete}
-use Rattle.analysis.proofs.Steady.{
+use Rattle.runs.proofs.Apart.{apart-le, apart-lt}
+use Rattle.runs.proofs.Jobs.{counted}
+use Rattle.runs.proofs.Task.{served-le, served-mono}
+use Rattle.runs.proofs.Busy.{PeriodsPositive, Window, window, levelTook, reach, complete}
+use Rattle.runs.proofs.Steady.{
   timeIn,
   phaseAt,
   heldAt,
@@ -111,7 +111,7 @@ module _ (tab : Table) (positive : PeriodsPositive tab) (ρ : Run) (rules : Rule
     setting : Setting tab u a (ρ .mode u 0) (X .c)
     setting =
         record {
-          mode = rules .mode u 0 (here .owner);
+          mode = rules .permitted .mode u 0 (here .owner);
           runs = runs;
           place = X .place;
           candidate = go (ℕ-discrete (X .c) a);
@@ -158,7 +158,7 @@ module _ (tab : Table) (positive : PeriodsPositive tab) (ρ : Run) (rules : Rule
         below =
             rw (jobs-by tab u a (X .c) (b .L) (positive u (here .owner)))
             (counted (positive u (here .owner)) (heldOf tab u (X .c) a) (x .N) (phaseOf tab u (X .c) a) (b .L)
-            (omega (arith, x .is, slid, ready-within (b .L) (b .some) (b .length), rules .arrived u a k here)))
+            (omega (arith, x .is, slid, ready-within (b .L) (b .some) (b .length), rules .permitted .arrived u a k here)))
 
         J : JobBound tab u a (ρ .mode u 0) (X .c) R (x .N)
         J = b .job (x .N) below
@@ -185,7 +185,7 @@ sound tab positive ρ rules u a k R here holds bounds = go (runs? tab u (ρ .mod
 
 -- a run that keeps the holding rule as document 01 has it keeps the wider one
 pub holds-widely : (tab : Table) (ρ : Run) (u a : ℕ) → Holds tab ρ u a → HoldsWidely tab ρ u a
-holds-widely tab ρ u a holds = λ s d stretch unbroken. holds s d stretch
+holds-widely tab ρ u a holds = λ s d unbroken. holds s d
 
 -- in every legal run
 pub safe : (tab : Table) → PeriodsPositive tab → (u a R : ℕ) → IsTask tab u a → Bounds tab u a R → Safe tab u a R

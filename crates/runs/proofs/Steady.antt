@@ -16,17 +16,17 @@ use Rattle.periods.proofs.Congruence.{Steps}
 use Rattle.periods.proofs.Phase.{phase-spec}
 use Rattle.periods.proofs.Charge.{imp, rel, imposed-is, released-is, imp-mono, imp-add, rel-mono, rel-add, imp≤rel}
 use Rattle.periods.proofs.Slide.{Slid, slide, slide-charge}
 use Rattle.analysis.specs.Choice.{when, most}
 use Rattle.analysis.specs.Rival.{Urgent, Runs, runs?, Rival, rival?}
 use Rattle.analysis.specs.Charge.{Later, phaseOf, heldOf, taskCharge, charge, greatest}
-use Rattle.analysis.specs.Run.{Run, eventTick, arrival, served}
-use Rattle.analysis.specs.Legal.{Rules}
+use Rattle.runs.specs.Run.{Run, eventTick, arrival, served}
+use Rattle.runs.specs.Legal.{Rules}
 use Rattle.analysis.proofs.Choice.{when-yes, when-le, most-ge}
-use Rattle.analysis.proofs.Jobs.{Clear, arrives, took, index, took-unfinished, took-imposed, took-released}
-use Rattle.analysis.proofs.Task.{stream, served-done}
-use Rattle.analysis.proofs.Busy.{PeriodsPositive, Quiet, taskTook, levelTook}
-use Rattle.analysis.proofs.Apart.{apart-le, apart-lt}
-use Rattle.analysis.proofs.Search.{Lowest, search-lowest}
+use Rattle.runs.proofs.Jobs.{Clear, arrives, took, index, took-unfinished, took-imposed, took-released}
+use Rattle.runs.proofs.Task.{stream, served-done}
+use Rattle.runs.proofs.Busy.{PeriodsPositive, Quiet, taskTook, levelTook}
+use Rattle.runs.proofs.Apart.{apart-le, apart-lt}
+use Rattle.runs.proofs.Search.{Lowest, search-lowest}
 
 -- ---- one task, seen from s
 
@@ -57,7 +57,7 @@ pub record Left (ρ : Run) (i j t : ℕ) : Type 0 where
   pub unfinished : served ρ i j k t < ρ .need i j k
 
 pub need-most : (tab : Table) (ρ : Run) → Rules tab ρ → (i j : ℕ) → IsTask tab i j → (k : ℕ) → ρ .need i j k ≤ timeIn tab ρ i j
-need-most tab ρ rules i j here k = rw (rules .steady i k (here .owner)) at (rules .needMost i j k here)
+need-most tab ρ rules i j here k = rw (rules .permitted .steady i k (here .owner)) at (rules .permitted .needMost i j k here)
 
 module _ (tab : Table) (ρ : Run) (rules : Rules tab ρ) (s i j : ℕ) (here : IsTask tab i j) (positive : 0 < period tab i) where
   -- event, offset and phase fit: s is `since` after an event, and the phase with that makes the offset, but for periods
@@ -268,7 +268,7 @@ module _ {tab : Table} {ρ : Run} {u a s : ℕ} (start : Start tab ρ u a s) whe
           arith,
           when-yes (rival? tab u a i (ρ .mode i 0) (X .c)) (charge later tab u a i (ρ .mode i 0) (X .c) d) r,
           most-ge (tasks tab i) (over (ρ .mode i 0)) (X .c) (X .place),
-          most-ge (modes tab i) (λ m. most (tasks tab i) (over m)) (ρ .mode i 0) (start .rules .mode i 0 owner),
+          most-ge (modes tab i) (λ m. most (tasks tab i) (over m)) (ρ .mode i 0) (start .rules .permitted .mode i 0 owner),
         )
 
     pub other-charge : {later : Later} → Lawful later → (d : ℕ) → levelTook tab ρ (priority tab u a) s d i ≤ greatest later tab u a i d
