@@ -10,39 +10,42 @@ use Rattle.periods.specs.Phase.{ceiling}
 use Rattle.periods.specs.Charge.{released}
 use Rattle.analysis.specs.Choice.{Least, count}
 use Rattle.analysis.specs.Rival.{Candidate, Runs}
-use Rattle.analysis.specs.Charge.{Later, phaseOf, heldOf, rivals}
+use Rattle.analysis.specs.Charge.{Later, phaseOf, heldOf, charge, others}
 
 -- First job number p0 = 1 − floor((J + F)/T), F being a's phase. It can be 0 or below
-unfoldable pub firstJob : Table → ℕ → ℕ → ℕ → ℤ
+unfoldable pub firstJob : Table → (u a c : ℕ) → ℤ
 firstJob tab u a c = pos 1 -ℤ pos (heldOf tab u c a)
 
 -- ceil((t − F)/T), the last job number by t
-unfoldable pub lastJob : Table → ℕ → ℕ → ℕ → ℕ → ℤ
+unfoldable pub lastJob : Table → (u a c t : ℕ) → ℤ
 lastJob tab u a c t = ceiling (pos t -ℤ pos (phaseOf tab u c a)) (period tab u)
 
 -- p − p0 + 1, the number of jobs from the first to p
-unfoldable pub jobsTo : Table → ℕ → ℕ → ℕ → ℤ → ℕ
+unfoldable pub jobsTo : Table → (u a c : ℕ) (p : ℤ) → ℕ
 jobsTo tab u a c p = count (p -ℤ firstJob tab u a c +ℤ pos 1)
 
--- B + (p − p0 + 1)·C + the rivals' charges at t
-unfoldable pub demand : Later → Table → ℕ → ℕ → ℕ → ℕ → ℤ → ℕ → ℕ
-demand later tab u a m c p t =
-    blocking tab u a + jobsTo tab u a c p * time tab u m a + rivals later tab u a m c t
+-- what u charges, a's own jobs p0 to p and its rivals together: (p − p0 + 1)·C + the charge of u at t
+unfoldable pub own : Later → Table → (u a m c : ℕ) (p : ℤ) (t : ℕ) → ℕ
+own later tab u a m c p t = jobsTo tab u a c p * time tab u m a + charge later tab u a u m c t
+
+-- B + what u charges + what the other transactions charge
+unfoldable pub demand : Later → Table → (u a m c : ℕ) (p : ℤ) (t : ℕ) → ℕ
+demand later tab u a m c p t = blocking tab u a + own later tab u a m c p t + others later tab u a t
 
 -- the demand by t of all jobs up to t, with released charges
-unfoldable pub busy : Table → ℕ → ℕ → ℕ → ℕ → ℕ → ℕ
+unfoldable pub busy : Table → (u a m c t : ℕ) → ℕ
 busy tab u a m c t = demand released tab u a m c (lastJob tab u a c t) t
 
 -- Busy length L: the least t ≥ 1 with that demand ≤ t
-abbrev pub BusyLength : Table → ℕ → ℕ → ℕ → ℕ → ℕ → Type 0
+abbrev pub BusyLength : Table → (u a m c L : ℕ) → Type 0
 BusyLength tab u a m c = Least (λ t. (1 ≤ t) × (busy tab u a m c t ≤ t))
 
 -- Completion w of job p: the least t with demand = t
-abbrev pub Completion : Later → Table → ℕ → ℕ → ℕ → ℕ → ℤ → ℕ → Type 0
+abbrev pub Completion : Later → Table → (u a m c : ℕ) (p : ℤ) (w : ℕ) → Type 0
 Completion later tab u a m c p = Least (λ t. demand later tab u a m c p t ≡ t)
 
 -- Response of job p that completes at w: w − (F + (p − 1)·T) + O
-unfoldable pub response : Table → ℕ → ℕ → ℕ → ℤ → ℕ → ℤ
+unfoldable pub response : Table → (u a c : ℕ) (p : ℤ) (w : ℕ) → ℤ
 response tab u a c p w =
     pos w -ℤ (pos (phaseOf tab u c a) +ℤ (p -ℤ pos 1) *ℤ pos (period tab u)) +ℤ pos (offset tab u a)
 

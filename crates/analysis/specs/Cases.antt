@@ -151,6 +151,11 @@ own-modes : answer imposed (table 2 (transaction 2 2 (task 0 0 0 20 1 (1 ∷ 0 �
 unfolding computing
 own-modes = refl
 
+-- L may be the horizon itself; one tick more is past it
+horizon : answer imposed (lone 16_777_215 (plain 0 16_777_215 1 20)) 0 0 100 ∷ answer imposed (lone 16_777_215 (task 0 0 1 20 1 (16_777_215 ∷ []))) 0 0 100 ∷ [] ≡ bound 16_777_215 3 ∷ beyond 1 ∷ []
+unfolding computing
+horizon = refl
+
 -- ---- budget: 6 evaluations are enough for task 2 of S, 5 are not; none is needed for an overload
 
 budgets : answer imposed S 1 0 5 ∷ answer imposed S 1 0 6 ∷ answer imposed S 1 0 7 ∷ answer imposed S 1 0 0 ∷ answer imposed (lone 10 (plain 0 11 1 20)) 0 0 0 ∷ [] ≡ spent 5 ∷ bound 5 6 ∷ bound 5 6 ∷ spent 0 ∷ overload ∷ []

@@ -18,15 +18,15 @@ abbrev pub Never : ℕ → Type 0
 Never v = ⊥
 
 -- the N-th job counted from the first, p0 + N
-unfoldable pub job : Table → ℕ → ℕ → ℕ → ℕ → ℤ
+unfoldable pub job : Table → (u a c N : ℕ) → ℤ
 job tab u a c N = firstJob tab u a c +ℤ pos N
 
 -- where the chain of job p starts: B + (p − p0 + 1)·C
-unfoldable pub start : Table → ℕ → ℕ → ℕ → ℕ → ℤ → ℕ
+unfoldable pub start : Table → (u a m c : ℕ) (p : ℤ) → ℕ
 start tab u a m c p = blocking tab u a + jobsTo tab u a c p * time tab u m a
 
 -- the chains of the first N jobs make n evaluations together
-pub data JobChains (tab : Table) (u a m c : ℕ) : ℕ → ℕ → Type 0 where
+pub data JobChains (tab : Table) (u a m c : ℕ) : (N n : ℕ) → Type 0 where
   none : JobChains tab u a m c 0 0
   one : {N n k w : ℕ} → JobChains tab u a m c N n → Chain (demand imposed tab u a m c (job tab u a c N)) Never (start tab u a m c (job tab u a c N)) k (came w) → JobChains tab u a m c (suc N) (n + k)
 
@@ -36,7 +36,7 @@ pub data Outcome : Type 0 where
   pastHorizon : Outcome
 
 -- the turns make n evaluations and come to this outcome
-pub data Needed (tab : Table) (u a : ℕ) : List Turn → ℕ → Outcome → Type 0 where
+pub data Needed (tab : Table) (u a : ℕ) : (order : List Turn) (n : ℕ) → Outcome → Type 0 where
   none : Needed tab u a [] 0 bounded
   past : {m c n : ℕ} {rest : List Turn} → Chain (busy tab u a m c) Beyond 1 n over → Needed tab u a (record { mode = m; candidate = c } ∷ rest) n pastHorizon
   turn : {m c L n k l : ℕ} {rest : List Turn} {o : Outcome} → Chain (busy tab u a m c) Beyond 1 n (came L) → JobChains tab u a m c (jobsTo tab u a c (lastJob tab u a c L)) k → Needed tab u a rest l o → Needed tab u a (record { mode = m; candidate = c } ∷ rest) (n + k + l) o

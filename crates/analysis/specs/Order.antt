@@ -5,7 +5,7 @@ use Rattle.table.specs.Table.{Table, modes, tasks}
 use Rattle.analysis.specs.Rival.{runs?, candidate?}
 
 -- k, k + 1, .., k + n − 1
-unfoldable pub from : ℕ → ℕ → List ℕ
+unfoldable pub from : (k n : ℕ) → List ℕ
 from k zero = []
 from k (suc n) = k ∷ from (suc k) n
 
@@ -14,16 +14,16 @@ pub record Turn : Type 0 where
   pub mode : ℕ
   pub candidate : ℕ
 
-unfoldable pub runningModes : Table → ℕ → ℕ → List ℕ
+unfoldable pub runningModes : Table → (u a : ℕ) → List ℕ
 runningModes tab u a = filter (λ m. runs? tab u m a) (from 0 (modes tab u))
 
-unfoldable pub candidates : Table → ℕ → ℕ → ℕ → List ℕ
+unfoldable pub candidates : Table → (u a m : ℕ) → List ℕ
 candidates tab u a m = filter (candidate? tab u a m) (from 0 (tasks tab u))
 
 -- the turns of these modes
-unfoldable pub turns : Table → ℕ → ℕ → List ℕ → List Turn
+unfoldable pub turns : Table → (u a : ℕ) (ms : List ℕ) → List Turn
 turns tab u a [] = []
 turns tab u a (m ∷ ms) = map (λ c. record { mode = m; candidate = c }) (candidates tab u a m) ++ turns tab u a ms
 
-unfoldable pub walkOrder : Table → ℕ → ℕ → List Turn
+unfoldable pub walkOrder : Table → (u a : ℕ) → List Turn
 walkOrder tab u a = turns tab u a (runningModes tab u a)

@@ -19,11 +19,11 @@ use Rattle.runs.proofs.Task.{look, look-self, served-le, served-mono}
 use Rattle.runs.proofs.Search.{search-below}
 
 -- the ticks among the d from s on that serve task j of transaction i
-unfoldable pub taskTook : Run → ℕ → ℕ → ℕ → ℕ → ℕ
+unfoldable pub taskTook : Run → (s d i j : ℕ) → ℕ
 taskTook ρ s d i j = sum d (λ v. any (look i j (ρ .at (s + v))))
 
 -- those that serve a task of transaction i with priority p or above
-unfoldable pub levelTook : Table → Run → ℕ → ℕ → ℕ → ℕ → ℕ
+unfoldable pub levelTook : Table → Run → (p s d i : ℕ) → ℕ
 levelTook tab ρ p s d i = sum (tasks tab i) (λ j. when (decLe p (priority tab i j)) (taskTook ρ s d i j))
 
 -- ---- every tick of a stretch is one of lower work or of such work
@@ -76,7 +76,7 @@ abbrev pub PeriodsPositive : Table → Type 0
 PeriodsPositive tab = (i : ℕ) → i < transactions tab → 0 < period tab i
 
 -- every job of priority p or above that was ready before s has finished by s
-abbrev pub Quiet : Table → Run → ℕ → ℕ → Type 0
+abbrev pub Quiet : Table → Run → (p s : ℕ) → Type 0
 Quiet tab ρ p s =
     (i j k : ℕ) → IsTask tab i j → p ≤ priority tab i j → ρ .ready i j k < s → Finished ρ i j k s
 

@@ -76,7 +76,7 @@ rank-lower tab p (job i j k) h = go (decLt (priority tab i j) p)
     go (no d) = refl
 
 -- the ticks given to that job among those past, the newest first
-unfoldable pub given : ℕ → ℕ → ℕ → List Slot → ℕ
+unfoldable pub given : (i j k : ℕ) → List Slot → ℕ
 given i j k [] = 0
 given i j k (s ∷ past) = given i j k past + serves i j k s
 
@@ -102,7 +102,7 @@ module _ (tab : Table) (ρ : Run) (t0 : ℕ) where
   dispatched = withTicks ρ (λ v. newest (past (suc v)))
 
   -- the ticks given to each job before t
-  abbrev given-in : ℕ → ℕ → ℕ → ℕ → ℕ
+  abbrev given-in : (t i j k : ℕ) → ℕ
   given-in t i j k = given i j k (past t)
 
   given-served : (i j k t : ℕ) → given i j k (past t) ≡ served dispatched i j k t

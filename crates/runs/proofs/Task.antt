@@ -17,7 +17,7 @@ lookBy (yes d) (no e) k = none
 lookBy (no d) e k = none
 
 -- what a tick does for task j of transaction i
-pub look : ℕ → ℕ → Slot → Look
+pub look : (i j : ℕ) → Slot → Look
 look i j idle = none
 look i j (job i′ j′ k) = lookBy (ℕ-discrete i′ i) (ℕ-discrete j′ j) k
 

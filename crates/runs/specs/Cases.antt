@@ -36,7 +36,7 @@ run mode ready need at =
 abbrev onArrival : ℕ → ℕ
 onArrival k = 1 + k * 10
 
-abbrev always : ℕ → ℕ → ℕ
+abbrev always : (n k : ℕ) → ℕ
 always n k = n
 
 abbrev idles : ℕ → Slot
