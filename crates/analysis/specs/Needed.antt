@@ -1,12 +1,13 @@
 -- The evaluations that the walk of a task needs, apart from any budget: the chains in walk order, up to and including the
 -- first L chain whose value passes H.
+use mathlib.Core.Path.{_≡_, refl}
 use mathlib.Core.List.{List, [], _∷_}
 use lib.IntN.{ℤ, pos, _+ℤ_}
 use Prim.Native.Nat.{ℕ, suc, _+_, _*_, _<_}
 use Rattle.table.specs.Table.{Table, blocking, time}
 use Rattle.table.specs.Limits.{horizon}
 use Rattle.periods.specs.Charge.{imposed}
-use Rattle.analysis.specs.Bound.{firstJob, lastJob, jobsTo, demand, busy}
+use Rattle.analysis.specs.Bound.{firstJob, lastJob, jobsTo, demand, busy, bounding, queued}
 use Rattle.analysis.specs.Chain.{Chain, came, over}
 use Rattle.analysis.specs.Order.{Turn}
 
@@ -24,6 +25,15 @@ job tab u a c N = firstJob tab u a c +ℤ pos N
 -- where the chain of job p starts: B + (p − p0 + 1)·C
 unfoldable pub start : Table → (u a m c : ℕ) (p : ℤ) → ℕ
 start tab u a m c p = blocking tab u a + jobsTo tab u a c p * time tab u m a
+
+-- of the queued task the second job is job 0, and its chain starts at 2·C
+second : job queued 0 0 0 1 ≡ pos 0
+unfolding bounding job
+second = refl
+
+second-start : start queued 0 0 0 0 (pos 0) ≡ 4
+unfolding bounding start
+second-start = refl
 
 -- the chains of the first N jobs make n evaluations together
 pub data JobChains (tab : Table) (u a m c : ℕ) : (N n : ℕ) → Type 0 where

@@ -1,9 +1,12 @@
 -- Overload: what a and its rivals demand in one major frame exceeds the major frame.
-use mathlib.Core.Path.{_≡_}
+use mathlib.Core.Path.{_≡_, refl}
+use mathlib.Core.List.{[], _∷_}
 use Prim.Native.Nat.{ℕ, _*_, _/_, _<_}
 use native.Mathlib.Decide.{decLe, ℕ-discrete}
 use Rattle.table.specs.Sum.{sum}
 use Rattle.table.specs.Table.{Table, transactions, period, modes, tasks, time}
+use Rattle.table.specs.Computing.{computing as tables}
+use Rattle.table.specs.Sample.{S, task, transaction, table}
 use Rattle.analysis.specs.Choice.{when, most}
 use Rattle.analysis.specs.Rival.{Runs, urgent?, runs?}
 
@@ -30,6 +33,16 @@ mostLoad tab u a i = most (modes tab i) (λ m. when (counts? tab u a i m) (load 
 -- the demand in one major frame
 unfoldable pub frameDemand : Table → (u a : ℕ) → ℕ
 frameDemand tab u a = sum (transactions tab) (λ i. tab .frame / period tab i * mostLoad tab u a i)
+
+-- S in the eyes of each of its tasks
+S-demands : frameDemand S 0 0 ∷ frameDemand S 0 1 ∷ frameDemand S 1 0 ∷ [] ≡ 2 ∷ 5 ∷ 7 ∷ []
+unfolding tables decLe ℕ-discrete when most urgent? runs? load counts? mostLoad frameDemand
+S-demands = refl
+
+-- of u only the modes where a runs count: the other task's 3 ticks in mode 1 are no demand for task 0
+own-modes : frameDemand (table 2 (transaction 2 2 (task 0 0 0 20 1 (1 ∷ 0 ∷ []) ∷ task 0 0 0 20 1 (0 ∷ 3 ∷ []) ∷ []) ∷ [])) 0 0 ≡ 1
+unfolding tables decLe ℕ-discrete when most urgent? runs? load counts? mostLoad frameDemand
+own-modes = refl
 
 abbrev pub Overload : Table → (u a : ℕ) → Type 0
 Overload tab u a = tab .frame < frameDemand tab u a
