@@ -26,11 +26,11 @@ lastJob tab u a c t = ceiling (pos t -ℤ pos (phaseOf tab u c a)) (period tab u
 unfoldable pub jobsTo : Table → (u a c : ℕ) (p : ℤ) → ℕ
 jobsTo tab u a c p = count (p -ℤ firstJob tab u a c +ℤ pos 1)
 
--- what u charges, a's own jobs p0 to p and its rivals together: (p − p0 + 1)·C + the charge of u at t
+-- What u charges, a's own jobs p0 to p among it: (p − p0 + 1)·C + the rivals' charge in u at t
 unfoldable pub own : Later → Table → (u a m c : ℕ) (p : ℤ) (t : ℕ) → ℕ
 own later tab u a m c p t = jobsTo tab u a c p * time tab u m a + charge later tab u a u m c t
 
--- B + what u charges + what the other transactions charge
+-- B + (p − p0 + 1)·C + the charges at t, of u and of the others
 unfoldable pub demand : Later → Table → (u a m c : ℕ) (p : ℤ) (t : ℕ) → ℕ
 demand later tab u a m c p t = blocking tab u a + own later tab u a m c p t + others later tab u a t
 
