@@ -12,7 +12,8 @@ use Rattle.image.specs.Fault.{imageFault}
 use Rattle.image.specs.Read.{IsAccepted}
 use Rattle.image.specs.Said.{tableIn}
 use Rattle.analysis.specs.Answer.{Answer, bound, Cells, cells, Answers}
-use Rattle.analysis.specs.Promise.{Safe, Tight}
+use Rattle.analysis.specs.Bound.{Tight}
+use Rattle.runs.specs.Promise.{Safe}
 use Rattle.sumpcandle.specs.declared.Filled.{Filled}
 use Rattle.sumpcandle.specs.declared.Filled.the-variants as filled
 
