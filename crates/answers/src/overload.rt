@@ -5,11 +5,10 @@ use super::layout::Work;
 use super::reads;
 ghost use mathlib.Core.Path.{_≡_};
 ghost use Prim.Native.Nat.{_<_, _*_, _/_};
-ghost use native.Mathlib.Decide.{ℕ-discrete};
 ghost use Rattle.table.specs.Table.{IsTask, transactions, period, modes, time};
 ghost use Rattle.analysis.specs.Choice.{when};
-ghost use Rattle.analysis.specs.Rival.{urgent?, runs?};
-ghost use Rattle.analysis.specs.Overload.{load, countsBy, mostLoad, frameDemand, overload?};
+ghost use Rattle.analysis.specs.Rival.{urgent?};
+ghost use Rattle.analysis.specs.Overload.{load, counts?, mostLoad, frameDemand, overload?};
 ghost use Rattle.answers.specs.Lent.{tested};
 ghost use Rattle.answers.specs.Work.{Lent, IsSubject, tableAt};
 
@@ -52,7 +51,7 @@ fn counted_load(row: &[u32; Work::CELLS], s: Subject, i: usize, m: usize) -> u64
     requires { ⌜ IsSubject (now row) s ⌝ }
     requires { ⌜ i < transactions (tableAt (now row)) ⌝ }
     requires { ⌜ m < modes (tableAt (now row)) i ⌝ }
-    ensures { λ r. ⌜ r ≡ when (countsBy (ℕ-discrete i (s .u)) (runs? (tableAt (now (row .entry))) (s .u) m (s .a))) (load (tableAt (now (row .entry))) (s .u) (s .a) i m) ⌝ }
+    ensures { λ r. ⌜ r ≡ when (counts? (tableAt (now (row .entry))) (s .u) (s .a) i m) (load (tableAt (now (row .entry))) (s .u) (s .a) i m) ⌝ }
 {
     if i == s.u {
         if reads::time(row, s.u, m, s.a) == 0 {

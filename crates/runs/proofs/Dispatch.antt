@@ -5,7 +5,7 @@ use Prim.Native.Nat.{ℕ, zero, suc, max, _≤_, _<_}
 use native.Mathlib.Decide.{decLe, decLt}
 use native.Mathlib.Omega.{arith}
 use Rattle.table.specs.Table.{Table, IsTask, transactions, tasks, priority}
-use Rattle.analysis.specs.Run.{Slot, idle, job, Run}
+use Rattle.runs.specs.Run.{Slot, idle, job, Run}
 
 unfoldable pub choose : {A : Type 0} → Dec A → Slot → Slot → Slot
 choose (yes a) s r = s
@@ -80,12 +80,12 @@ module _ (tab : Table) (ρ : Run) (given : ℕ → ℕ → ℕ → ℕ) (t : ℕ
   pending? i j k = pendingBy (decLe (ρ .ready i j k) t) (decLt (given i j k) (ρ .need i j k))
 
   -- that job if it is pending
-  unfoldable pub ifPending : ℕ → ℕ → ℕ → Slot
+  unfoldable pub ifPending : (i j k : ℕ) → Slot
   ifPending i j k = choose (pending? i j k) (job i j k) idle
 
   -- The earliest pending job of that task. It is looked for among the events up to the t-th: a later one comes after t,
   -- since events are T ≥ 1 apart
-  unfoldable pub earliest : ℕ → ℕ → Slot
+  unfoldable pub earliest : (i j : ℕ) → Slot
   earliest i j = best tab (suc t) (ifPending i j)
 
   unfoldable pub dispatch : Slot

@@ -2,13 +2,14 @@
 use mathlib.Core.Path.{_≡_, refl, sym, _∙_}
 use Prim.Native.Nat.{ℕ, _≤_}
 use native.Mathlib.Decide.{ℕ-discrete}
+use native.Mathlib.Omega.{arith}
 use Rattle.table.specs.Sum.{sum}
 use Rattle.table.specs.Table.{Table, IsTask, period, offset, jitter}
 use Rattle.table.proofs.Sum.{sum-ext, sum-grow}
 use Rattle.analysis.specs.Choice.{when}
-use Rattle.analysis.specs.Run.{Slot, idle, job, Run, eventTick, arrival, serves, served}
-use Rattle.analysis.specs.Legal.{Rules}
-use Rattle.analysis.proofs.Jobs.{Look, none, one, is, Stream, done, done-le}
+use Rattle.runs.specs.Run.{Slot, idle, job, Run, eventTick, arrival, serves, served}
+use Rattle.runs.specs.Legal.{Rules}
+use Rattle.runs.proofs.Jobs.{Look, none, one, is, Stream, done, done-le}
 
 lookBy : {A B : Type 0} → Dec A → Dec B → ℕ → Look
 lookBy (yes d) (yes e) k = one k
@@ -16,7 +17,7 @@ lookBy (yes d) (no e) k = none
 lookBy (no d) e k = none
 
 -- what a tick does for task j of transaction i
-pub look : ℕ → ℕ → Slot → Look
+pub look : (i j : ℕ) → Slot → Look
 look i j idle = none
 look i j (job i′ j′ k) = lookBy (ℕ-discrete i′ i) (ℕ-discrete j′ j) k
 
@@ -64,12 +65,12 @@ stream tab ρ rules i j here =
       ready = ρ .ready i j;
       need = ρ .need i j;
       look = λ v. look i j (ρ .at v);
-      arrived = λ k. rules .arrived i j k here;
-      prompt = λ k. rules .prompt i j k here;
-      inOrder = λ k. rules .inOrder i j k here;
-      isReady = λ v k o. rules .isReady v i j k (look-job i j k (ρ .at v) o);
-      unfinished = λ v k o. rw (served-look ρ i j k v) at (rules .unfinished v i j k (look-job i j k (ρ .at v) o));
-      ordered = λ v k o l b. sym (served-look ρ i j l v) ∙ rules .ordered v i j k (look-job i j k (ρ .at v) o) l b;
+      arrived = λ k. rules .permitted .arrived i j k here;
+      prompt = λ k. omega (arith, rules .permitted .prompt i j k here);
+      inOrder = λ k. rules .permitted .inOrder i j k here;
+      isReady = λ v k o. rules .serving v i j k (look-job i j k (ρ .at v) o) .isReady;
+      unfinished = λ v k o. rw (served-look ρ i j k v) at (rules .serving v i j k (look-job i j k (ρ .at v) o) .unfinished);
+      ordered = λ v k o l b. sym (served-look ρ i j l v) ∙ rules .serving v i j k (look-job i j k (ρ .at v) o) .ordered l b;
     }
 
 module _ (tab : Table) (ρ : Run) (rules : Rules tab ρ) (i j : ℕ) (here : IsTask tab i j) where

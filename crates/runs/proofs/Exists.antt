@@ -7,12 +7,13 @@ use native.Mathlib.Omega.{arith}
 use Rattle.table.specs.Sum.{sum}
 use Rattle.table.specs.Table.{Table, priority}
 use Rattle.table.specs.Kept.{Kept}
 use Rattle.analysis.specs.Choice.{when}
-use Rattle.analysis.specs.Run.{Slot, idle, job, Run, eventTick, arrival}
-use Rattle.analysis.specs.Legal.{Rules, Legal, lower, lowerTicks, Stretch}
-use Rattle.analysis.specs.Choices.{Permitted, RulesUpTo, LegalUpTo, Extension}
-use Rattle.analysis.proofs.ExtendTicks.{withTicks, served-same, pending-same, lower-same}
-use Rattle.analysis.proofs.Extend.{extends}
+use Rattle.runs.specs.Run.{Slot, idle, job, Run}
+use Rattle.runs.specs.Legal.{Rules, Legal, lower, lowerTicks, Stretch}
+use Rattle.runs.specs.Choices.{Permitted}
+use Rattle.runs.specs.Beginning.{RulesUpTo, LegalUpTo, Extension}
+use Rattle.runs.proofs.ExtendTicks.{withTicks, permitted-same, served-same, pending-same, lower-same}
+use Rattle.runs.proofs.Extend.{extends}
 
 -- lower work takes no more ticks than there are
 pub lower-most : (tab : Table) (ρ : Run) (p s d : ℕ) → lowerTicks tab ρ p s d ≤ d
@@ -28,20 +29,6 @@ lower-most tab ρ p s (suc d) = go (ρ .at (s + d)) (lower-most tab ρ p s d)
         by (yes e) = omega arith
         by (no e) = omega arith
 
--- what the rules say of the choices
-permitted : (tab : Table) (ρ : Run) (f : ℕ → Slot) → Rules tab (withTicks ρ f) → Permitted tab ρ
-unfolding arrival eventTick
-permitted tab ρ f r =
-    record {
-      mode = r .mode;
-      steady = r .steady;
-      arrived = r .arrived;
-      prompt = λ i j k h. omega (arith, r .prompt i j k h);
-      inOrder = r .inOrder;
-      needMost = r .needMost;
-      needSome = r .needSome;
-    }
-
 -- before tick 0 no rule about ticks is broken
 pub nothing-yet : (tab : Table) (ρ : Run) → Permitted tab ρ → LegalUpTo tab ρ 0
 nothing-yet tab ρ h =
@@ -49,10 +36,7 @@ nothing-yet tab ρ h =
       rules =
           record {
             permitted = h;
-            isTask = λ v i j k l. absurd (omega arith);
-            isReady = λ v i j k l. absurd (omega arith);
-            unfinished = λ v i j k l. absurd (omega arith);
-            ordered = λ v i j k l. absurd (omega arith);
+            serving = λ v i j k l. absurd (omega arith);
           };
       holds = λ u a x s d l e. omega (arith, lower-most tab ρ (priority tab u a) s d);
     }
@@ -91,15 +75,16 @@ begun tab ρ t x = go legal
     rules : Rules tab (withTicks ρ f) → RulesUpTo tab ρ t
     rules r =
         record {
-          permitted = permitted tab ρ f r;
-          isTask = λ v i j k l e. r .isTask v i j k (before v l ∙ e);
-          isReady = λ v i j k l e. r .isReady v i j k (before v l ∙ e);
-          unfinished =
+          permitted = permitted-same tab (withTicks ρ f) (ρ .at) (r .permitted);
+          serving =
               λ v i j k l e.
-              omega (arith, served-same ρ f t before i j k v (omega arith), r .unfinished v i j k (before v l ∙ e));
-          ordered =
-              λ v i j k l e q b.
-              omega (arith, served-same ρ f t before i j q v (omega arith), r .ordered v i j k (before v l ∙ e) q b);
+              let x = r .serving v i j k (before v l ∙ e) in
+              record {
+                isTask = x .isTask;
+                isReady = x .isReady;
+                unfinished = omega (arith, served-same ρ f t before i j k v (omega arith), x .unfinished);
+                ordered = λ q b. omega (arith, served-same ρ f t before i j q v (omega arith), x .ordered q b);
+              };
         }
 
     go : Legal tab (withTicks ρ f) → LegalUpTo tab ρ t

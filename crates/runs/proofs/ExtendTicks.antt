@@ -5,12 +5,27 @@ use Prim.Native.Nat.{ℕ, _+_, _≤_, _<_}
 use native.Mathlib.Omega.{arith}
 use Rattle.table.specs.Table.{Table}
 use Rattle.table.proofs.Sum.{sum-ext}
-use Rattle.analysis.specs.Run.{Slot, Run, serves, served}
-use Rattle.analysis.specs.Legal.{Pending, lower, lowerTicks}
+use Rattle.runs.specs.Run.{Slot, Run, eventTick, arrival, serves, served}
+use Rattle.runs.specs.Choices.{Permitted}
+use Rattle.runs.specs.Legal.{Pending, lower, lowerTicks}
 
 -- the choices of ρ with these ticks
 abbrev pub withTicks : Run → (ℕ → Slot) → Run
 withTicks ρ f = record { event = ρ .event; mode = ρ .mode; ready = ρ .ready; need = ρ .need; at = f }
+
+-- are as permitted as with any other
+pub permitted-same : (tab : Table) (ρ : Run) (f : ℕ → Slot) → Permitted tab ρ → Permitted tab (withTicks ρ f)
+unfolding arrival eventTick
+permitted-same tab ρ f x =
+    record {
+      mode = x .mode;
+      steady = x .steady;
+      arrived = x .arrived;
+      prompt = λ i j k h. omega (arith, x .prompt i j k h);
+      inOrder = x .inOrder;
+      needMost = x .needMost;
+      needSome = x .needSome;
+    }
 
 module _ (ρ : Run) (f : ℕ → Slot) (t0 : ℕ) (same : (v : ℕ) → v < t0 → f v ≡ ρ .at v) where
   pub served-same : (i j k t : ℕ) → t ≤ t0 → served (withTicks ρ f) i j k t ≡ served ρ i j k t

@@ -63,14 +63,14 @@ unfoldable pub arrives : Stream → ℕ → ℕ
 arrives σ k = σ .e + k * σ .T + σ .O
 
 -- the ticks before t that serve job k
-unfoldable pub done : Stream → ℕ → ℕ → ℕ
+unfoldable pub done : Stream → (k t : ℕ) → ℕ
 done σ k t = sum t (λ v. is k (σ .look v))
 
 -- the ticks among the d from s on that serve job k, and those that serve any job
-unfoldable pub tookBy : Stream → ℕ → ℕ → ℕ → ℕ
+unfoldable pub tookBy : Stream → (s k d : ℕ) → ℕ
 tookBy σ s k d = sum d (λ v. is k (σ .look (s + v)))
 
-unfoldable pub took : Stream → ℕ → ℕ → ℕ
+unfoldable pub took : Stream → (s d : ℕ) → ℕ
 took σ s d = sum d (λ v. any (σ .look (s + v)))
 
 is-or : (k : ℕ) (l : Look) → (is k l ≡ 0) ⊎ (l ≡ one k)
@@ -168,7 +168,7 @@ counted {T} positive h N φ d l =
     ]
 
 -- Arrivals of the task fall φ after s, give or take whole periods
-abbrev pub Aligned : Stream → ℕ → ℕ → Type 0
+abbrev pub Aligned : Stream → (s φ : ℕ) → Type 0
 Aligned σ s φ = (σ .e + σ .O) % σ .T ≡ (s + φ) % σ .T
 
 -- the jobs that may be held back to s
@@ -176,7 +176,7 @@ abbrev pub heldTo : Stream → ℕ → ℕ
 heldTo σ φ = held (σ .T) (σ .J) φ
 
 -- job k is job N counted from the first that can be ready at s or later
-abbrev pub Nth : Stream → ℕ → ℕ → ℕ → ℕ → Type 0
+abbrev pub Nth : Stream → (s φ k N : ℕ) → Type 0
 Nth σ s φ k N = arrives σ k + heldTo σ φ * σ .T ≡ s + φ + N * σ .T
 
 -- A job that is ready at s or later has such a number: its arrival is φ after s but for whole periods, and its jitter

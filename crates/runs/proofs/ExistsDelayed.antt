@@ -6,9 +6,10 @@ use native.Mathlib.Decide.{decLt}
 use native.Mathlib.Omega.{arith}
 use Rattle.table.specs.Table.{Table, IsTask, period, modes, offset, jitter, blocking, priority, time}
 use Rattle.table.specs.Kept.{Kept}
-use Rattle.analysis.specs.Run.{idle, job, Run, eventTick, arrival}
-use Rattle.analysis.specs.Choices.{Permitted, LegalUpTo}
-use Rattle.analysis.proofs.Exists.{lower-most}
+use Rattle.runs.specs.Run.{idle, job, Run, eventTick, arrival}
+use Rattle.runs.specs.Choices.{Permitted}
+use Rattle.runs.specs.Beginning.{LegalUpTo}
+use Rattle.runs.proofs.Exists.{lower-most}
 
 -- these first events; each job is ready n after its arrival and needs all of C; the processor idles
 unfoldable pub delayed : Table → (ℕ → ℕ) → ℕ → Run
@@ -43,10 +44,7 @@ module _ (tab : Table) (kept : Kept tab) (first : ℕ → ℕ) (n : ℕ) (delay 
         rules =
             record {
               permitted = delayed-permitted;
-              isTask = λ v i j k l e. absurd (serves-none e);
-              isReady = λ v i j k l e. absurd (serves-none e);
-              unfinished = λ v i j k l e. absurd (serves-none e);
-              ordered = λ v i j k l e. absurd (serves-none e);
+              serving = λ v i j k l e. absurd (serves-none e);
             };
         holds = λ u a x s d l e.
             elim (decLt 0 d) [

@@ -3,34 +3,36 @@
 use mathlib.Core.Path.{_≡_, refl}
 use mathlib.Core.List.{[], _∷_}
 use Prim.Native.Nat.{ℕ, zero, suc, _+_, _≤_, _<_, _^_, zero-le}
-use native.Mathlib.Decide.{decLe, decLt, ℕ-discrete}
+use native.Mathlib.Decide.{decLt}
 use native.Mathlib.Omega.{arith}
 use lib.Dec.{lit<, lit≤}
 use lib.ListN.{getD}
 use Rattle.table.specs.Table.{Table, IsTask, noTask, transaction, jitter, blocking}
 use Rattle.table.specs.Kept.{Kept, KeptTransaction, KeptTask}
-use Rattle.table.specs.Computing.{computing as tables}
-use Rattle.table.specs.Sample.{S, lone, task}
+use Rattle.table.specs.Sample.{S}
 use Rattle.table.proofs.Kept.{S-kept}
 use Rattle.table.proofs.Sum.{sum-grow}
 use Rattle.periods.specs.Charge.{imposed}
-use Rattle.analysis.specs.Choice.{when}
 use Rattle.analysis.specs.Answer.{bound}
 use Rattle.analysis.specs.Walk.{answer}
 use Rattle.analysis.specs.Computing.{computing}
-use Rattle.analysis.specs.Run.{idle, job, Run, eventTick, arrival, serves, served, Finished}
-use Rattle.analysis.specs.Legal.{Legal, lower, lowerTicks}
-use Rattle.analysis.specs.Promise.{Safe}
-use Rattle.analysis.specs.Choices.{RespondsIn}
-use Rattle.analysis.proofs.Dispatch.{choose, rank, more, best, pending?, ifPending, earliest, dispatch}
-use Rattle.analysis.proofs.Extend.{given, newest, next, add, past, dispatched, dispatched-legal}
-use Rattle.analysis.proofs.Exists.{nothing-yet}
-use Rattle.analysis.proofs.ExistsDelayed.{delayed, delayed-permitted, idle-beginning}
+use Rattle.runs.specs.Run.{idle, job, Run, eventTick, serves, served, Finished, RespondsIn}
+use Rattle.runs.specs.Legal.{Legal}
+use Rattle.runs.specs.Beginning.{Extension}
+use Rattle.runs.specs.Promise.{Safe}
+use Rattle.runs.specs.Computing.{ticking}
+use Rattle.runs.specs.Cases.{one, isOne, lazy, lazy-pending}
+use Rattle.analysis.proofs.Sample.{isTask-2, bound-2}
+use Rattle.runs.proofs.Demand.{bound-safe}
+use Rattle.runs.proofs.Dispatch.{choose, rank, more, best, pending?, ifPending, earliest, dispatch}
+use Rattle.runs.proofs.Extend.{given, newest, next, add, past, dispatched, dispatched-legal}
+use Rattle.runs.proofs.Exists.{nothing-yet, begun}
+use Rattle.runs.proofs.ExistsDelayed.{delayed, delayed-permitted, idle-beginning}
 
--- One name that opens every definition of a run and of the dispatcher, so that the first ticks of a run compute
-unfoldable pub ticking : Unit {0}
-unfolding tables decLe decLt ℕ-discrete when eventTick arrival serves served lower lowerTicks delayed choose rank more best pending? ifPending earliest dispatch given newest next add past dispatched
-ticking = tt
+-- One name that opens the dispatcher too, so that the first ticks of a run that it made compute
+unfoldable pub dispatching : Unit {0}
+unfolding ticking delayed choose rank more best pending? ifPending earliest dispatch given newest next add past dispatched
+dispatching = tt
 
 -- What is served only grows, so that a job which had not finished one tick earlier had not finished before either
 responds :
@@ -74,19 +76,21 @@ sample-legal =
 pub sample-ticks :
     past S (delayed S firstEvents 0) 0 9
     ≡ job 1 0 0 ∷ job 1 0 0 ∷ job 0 1 0 ∷ job 0 1 0 ∷ job 0 1 0 ∷ idle ∷ idle ∷ job 0 0 0 ∷ job 0 0 0 ∷ []
-unfolding ticking firstEvents
+unfolding dispatching firstEvents
 sample-ticks = refl
 
 pub sample-responds : RespondsIn S sampleRun 1 0 0 5
-unfolding ticking sampleRun firstEvents
+unfolding dispatching sampleRun firstEvents
 sample-responds = responds S sampleRun 1 0 0 4 refl (lit< tt)
+
+-- its bound is safe, and nothing less is
+pub sample-safe : Safe S 1 0 5
+sample-safe = bound-safe S-kept isTask-2 bound-2
 
 pub sample-tight : ¬ (Safe S 1 0 4)
 sample-tight = unsafe S sampleRun 1 0 4 sample-legal sample-responds
 
--- a lone task, with J 3, B 2 and C 4
-abbrev pub one : Table
-one = lone 10 (task 0 3 2 9 5 (4 ∷ []))
+-- the lone task of the cases, with J 3, B 2 and C 4
 
 one-kept : Kept one
 unfolding ticking
@@ -138,7 +142,7 @@ unfoldable pub longRun : Run
 longRun = dispatched one (delayed one (λ i. 0) 3) 5
 
 pub long-legal : Legal one longRun
-unfolding ticking longRun
+unfolding dispatching longRun
 long-legal =
     dispatched-legal one one-kept (delayed one (λ i. 0) 3) 5 (idle-beginning one one-kept (λ i. 0) 3 delay 2 lower)
   where
@@ -153,7 +157,7 @@ long-legal =
     lower (suc i) j h = absurd (omega (arith, h .owner))
 
 pub long-responds : RespondsIn one longRun 0 0 0 9
-unfolding ticking longRun
+unfolding dispatching longRun
 long-responds = responds one longRun 0 0 0 8 refl (lit< tt)
 
 pub long-tight : ¬ (Safe one 0 0 8)
@@ -163,3 +167,9 @@ long-tight = unsafe one longRun 0 0 8 long-legal long-responds
 pub long-bound : answer imposed one 0 0 100 ≡ bound 9 3
 unfolding computing
 long-bound = refl
+
+-- and no legal run begins by idling one tick more
+pub idling-begun : ¬ (Extension one lazy 4)
+unfolding ticking
+idling-begun x =
+    omega (arith, begun one lazy 4 x .holds 0 0 isOne 1 3 (lit≤ tt) (λ v l. lazy-pending (1 + v) (omega arith)))

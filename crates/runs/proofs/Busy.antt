@@ -10,20 +10,20 @@ use native.Mathlib.Omega.{arith}
 use Rattle.table.specs.Sum.{sum}
 use Rattle.table.specs.Table.{Table, IsTask, transactions, tasks, period, blocking, priority}
 use Rattle.table.proofs.Sum.{sum-ext, sum-add, sum-term}
 use Rattle.analysis.specs.Choice.{when}
-use Rattle.analysis.specs.Run.{Slot, idle, job, Run, Finished, eventTick, arrival, served}
-use Rattle.analysis.specs.Legal.{Rules, Pending, Backlog, lower, lowerTicks, Stretch, Unbroken, HoldsWidely}
+use Rattle.runs.specs.Run.{Slot, idle, job, Run, Finished, eventTick, arrival, served}
+use Rattle.runs.specs.Legal.{Rules, Pending, Backlog, lower, lowerTicks, Stretch, Unbroken, HoldsWidely}
 use Rattle.analysis.proofs.Choice.{when-yes}
-use Rattle.analysis.proofs.Jobs.{any}
-use Rattle.analysis.proofs.Task.{look, look-self, served-le, served-mono}
-use Rattle.analysis.proofs.Search.{search-below}
+use Rattle.runs.proofs.Jobs.{any}
+use Rattle.runs.proofs.Task.{look, look-self, served-le, served-mono}
+use Rattle.runs.proofs.Search.{search-below}
 
 -- the ticks among the d from s on that serve task j of transaction i
-unfoldable pub taskTook : Run → ℕ → ℕ → ℕ → ℕ → ℕ
+unfoldable pub taskTook : Run → (s d i j : ℕ) → ℕ
 taskTook ρ s d i j = sum d (λ v. any (look i j (ρ .at (s + v))))
 
 -- those that serve a task of transaction i with priority p or above
-unfoldable pub levelTook : Table → Run → ℕ → ℕ → ℕ → ℕ → ℕ
+unfoldable pub levelTook : Table → Run → (p s d i : ℕ) → ℕ
 levelTook tab ρ p s d i = sum (tasks tab i) (λ j. when (decLe p (priority tab i j)) (taskTook ρ s d i j))
 
 -- ---- every tick of a stretch is one of lower work or of such work
@@ -64,7 +64,7 @@ count-ticks : (tab : Table) (ρ : Run) → Rules tab ρ → (p s d : ℕ) → d 
 unfolding lowerTicks sum
 count-ticks tab ρ rules p s zero = zero-le
 count-ticks tab ρ rules p s (suc d) =
-    let tick = one-tick tab p (ρ .at (s + d)) (rules .isTask (s + d)) in
+    let tick = one-tick tab p (ρ .at (s + d)) (λ i j k e. rules .serving (s + d) i j k e .isTask) in
     let n : ℕ = transactions tab in
     let more : sum n (levelTook tab ρ p s (suc d)) ≡ sum n (levelTook tab ρ p s d) + sum n (levelAt tab p (ρ .at (s + d))) = sum-ext n (λ i l. levelTook-suc tab ρ p s d i) ∙ sum-add n _ _ in
     omega (arith, count-ticks tab ρ rules p s d)
@@ -76,7 +76,7 @@ abbrev pub PeriodsPositive : Table → Type 0
 PeriodsPositive tab = (i : ℕ) → i < transactions tab → 0 < period tab i
 
 -- every job of priority p or above that was ready before s has finished by s
-abbrev pub Quiet : Table → Run → ℕ → ℕ → Type 0
+abbrev pub Quiet : Table → Run → (p s : ℕ) → Type 0
 Quiet tab ρ p s =
     (i j k : ℕ) → IsTask tab i j → p ≤ priority tab i j → ρ .ready i j k < s → Finished ρ i j k s
 
@@ -103,7 +103,7 @@ module _ (tab : Table) (ρ : Run) (rules : Rules tab ρ) (positive : PeriodsPosi
   few-jobs : (s i j k : ℕ) → IsTask tab i j → ρ .ready i j k < s → k < s
   unfolding arrival eventTick
   few-jobs s i j k here l =
-      omega (arith, rules .arrived i j k here, le-mul-of-pos-right k (positive i (here .owner)))
+      omega (arith, rules .permitted .arrived i j k here, le-mul-of-pos-right k (positive i (here .owner)))
 
   -- search all tasks and those jobs for work that is left over
   quiet-or : (s : ℕ) → Backlog tab ρ p s ⊎ Quiet tab ρ p s
@@ -157,7 +157,7 @@ module _ (tab : Table) (ρ : Run) (rules : Rules tab ρ) (u a k : ℕ) (here : I
   -- stretch
   window-count : (d : ℕ) → ((v : ℕ) → v < d → ρ .ready u a k ≤ X .s + v → served ρ u a k (X .s + v) < ρ .need u a k) → d ≤ blocking tab u a + sum (transactions tab) (levelTook tab ρ (priority tab u a) (X .s) d)
   window-count d left =
-      omega (arith, holds (X .s) d stretch unbroken, count-ticks tab ρ rules (priority tab u a) (X .s) d)
+      omega (arith, holds (X .s) d unbroken stretch, count-ticks tab ρ rules (priority tab u a) (X .s) d)
     where
       stretch : Stretch tab ρ (priority tab u a) (X .s) d
       stretch v l =

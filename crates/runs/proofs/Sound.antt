@@ -1,35 +1,32 @@
 -- Demand 3: a bound holds in every legal run. In the window of a job, the charges of the candidate that sets the
 -- critical instant bound what the processor does before the job is ready, and before it finishes.
-use mathlib.Core.Path.{_≡_, ap, sym, _∙_}
+use mathlib.Core.Path.{_≡_}
 use mathlib.Core.Logic.{_≢_, inl, inr, ⊎-elim}
-use Prim.Native.Nat.{ℕ, suc, _+_, _*_, _-_, _≤_, _<_}
-use native.Mathlib.Nat.{le-refl, add-mul}
+use Prim.Native.Nat.{ℕ, _+_, _*_, _≤_, _<_}
+use native.Mathlib.Nat.{le-refl}
 use native.Mathlib.Decide.{ℕ-discrete}
 use native.Mathlib.Omega.{arith}
 use Rattle.table.specs.Sum.{sum}
-use Rattle.table.specs.Table.{Table, IsTask, transactions, period, jitter, priority, time}
-use Rattle.periods.specs.Phase.{ceil}
+use Rattle.table.specs.Table.{Table, IsTask, transactions, period, jitter, priority}
 use Rattle.periods.specs.Charge.{imposed, released}
 use Rattle.periods.proofs.Congruence.{Steps}
-use Rattle.periods.proofs.Charge.{rel, released-is}
 use Rattle.periods.proofs.Slide.{slide-own}
 use Rattle.analysis.specs.Choice.{unless}
 use Rattle.analysis.specs.Rival.{Runs, runs?, Candidate}
-use Rattle.analysis.specs.Charge.{Later, phaseOf, heldOf, taskCharge, greatest, rivals}
-use Rattle.analysis.specs.Bound.{Setting, lastJob, jobsTo, demand, busy}
+use Rattle.analysis.specs.Charge.{Later, phaseOf, heldOf, greatest, others}
+use Rattle.analysis.specs.Bound.{Setting, lastJob, jobsTo, own, demand, busy}
 use Rattle.analysis.specs.Needed.{job}
-use Rattle.analysis.specs.Run.{Run, Finished, eventTick, arrival, served}
-use Rattle.analysis.specs.Legal.{Rules, Backlog, Holds, HoldsWidely}
-use Rattle.analysis.specs.Promise.{Safe}
+use Rattle.runs.specs.Run.{Run, Finished, eventTick, arrival, served}
+use Rattle.runs.specs.Legal.{Rules, Backlog, Holds, HoldsWidely}
+use Rattle.runs.specs.Promise.{Safe}
 use Rattle.analysis.proofs.Choice.{unless-no}
 use Rattle.analysis.proofs.Bounds.{JobBound, CandidateBound, Bounds}
-use Rattle.analysis.proofs.Join.{demand-job, jobs-by, busy-jobs}
-use Rattle.analysis.proofs.Apart.{apart-le, apart-lt}
-use Rattle.analysis.proofs.Jobs.{counted}
-use Rattle.analysis.proofs.Task.{served-le, served-mono}
-use Rattle.analysis.proofs.Busy.{PeriodsPositive, Window, window, levelTook, reach, complete}
-use Rattle.analysis.proofs.Steady.{
-  timeIn,
+use Rattle.analysis.proofs.Join.{jobs-by}
+use Rattle.runs.proofs.Apart.{apart-le, apart-lt}
+use Rattle.runs.proofs.Jobs.{counted}
+use Rattle.runs.proofs.Task.{served-le, served-mono}
+use Rattle.runs.proofs.Busy.{PeriodsPositive, Window, window, levelTook, reach, complete}
+use Rattle.runs.proofs.Steady.{
   phaseAt,
   heldAt,
   Numbered,
@@ -49,17 +46,10 @@ use Rattle.analysis.proofs.Steady.{
   own-left,
 }
 
--- a's own jobs by t, as a charge
-own-jobs : (tab : Table) (u a m c t : ℕ) → taskCharge released tab u m c t a ≡ (heldOf tab u c a + ceil (t - phaseOf tab u c a) (period tab u)) * time tab u m a
-unfolding taskCharge rel
-own-jobs tab u a m c t =
-    ap (λ (x : ℕ). heldOf tab u c a * time tab u m a + x) (released-is (period tab u) (time tab u m a) t (phaseOf tab u c a))
-    ∙ sym (add-mul (heldOf tab u c a) (ceil (t - phaseOf tab u c a) (period tab u)) (time tab u m a))
-
 -- ---- all transactions together
 
 -- what the tasks of a's priority or above take of the d ticks from s on
-abbrev allTook : Table → Run → ℕ → ℕ → ℕ → ℕ → ℕ
+abbrev allTook : Table → Run → (u a s d : ℕ) → ℕ
 allTook tab ρ u a s d = sum (transactions tab) (levelTook tab ρ (priority tab u a) s d)
 
 module _ {tab : Table} {ρ : Run} {u a s : ℕ} (start : Start tab ρ u a s) where
@@ -67,25 +57,25 @@ module _ {tab : Table} {ρ : Run} {u a s : ℕ} (start : Start tab ρ u a s) whe
   other-term {later} lawful d i owner other =
       rw (unless-no (ℕ-discrete i u) (greatest later tab u a i d) other) (other-charge start i owner other lawful d)
 
-  took-all : {later : Later} → Lawful later → (d : ℕ) → allTook tab ρ u a s d ≤ levelTook tab ρ (priority tab u a) s d u + sum (transactions tab) (λ i. unless (ℕ-discrete i u) (greatest later tab u a i d))
+  took-all : {later : Later} → Lawful later → (d : ℕ) → allTook tab ρ u a s d ≤ levelTook tab ρ (priority tab u a) s d u + others later tab u a d
+  unfolding others
   took-all lawful d = apart-le (transactions tab) u (start .here .owner) (other-term lawful d)
 
   module _ (X : Critical tab ρ u a s u) where
     -- while the job is unfinished they take less than its demand has apart from B
-    took-before-finish : (k N d : ℕ) → Numbered tab ρ s u a k N → served ρ u a k (s + d) < ρ .need u a k → allTook tab ρ u a s d < suc N * timeIn tab ρ u a + rivals imposed tab u a (ρ .mode u 0) (X .c) d
-    unfolding rivals
+    took-before-finish : (k N d : ℕ) → Numbered tab ρ s u a k N → served ρ u a k (s + d) < ρ .need u a k → allTook tab ρ u a s d < own imposed tab u a (ρ .mode u 0) (X .c) (job tab u a (X .c) N) d + others imposed tab u a d
     took-before-finish k N d numbered left =
         omega (arith, took-all imposed-lawful d, own-unfinished start X k N d numbered left)
 
     -- while work is left over they take less than is released
-    took-before-quiet : Runs tab u (ρ .mode u 0) a → (d : ℕ) → Backlog tab ρ (priority tab u a) (s + d) → allTook tab ρ u a s d < taskCharge released tab u (ρ .mode u 0) (X .c) d a + rivals released tab u a (ρ .mode u 0) (X .c) d
-    unfolding rivals
+    took-before-quiet : Runs tab u (ρ .mode u 0) a → (d : ℕ) → Backlog tab ρ (priority tab u a) (s + d) → allTook tab ρ u a s d < own released tab u a (ρ .mode u 0) (X .c) (lastJob tab u a (X .c) d) d + others released tab u a d
+    unfolding others
     took-before-quiet runs d b = go (ℕ-discrete (b .i) u)
       where
         left : Left ρ (b .i) (b .j) (s + d)
         left = record { k = b .k; ready = b .ready; unfinished = b .unfinished }
 
-        go : Dec (b .i ≡ u) → allTook tab ρ u a s d < taskCharge released tab u (ρ .mode u 0) (X .c) d a + rivals released tab u a (ρ .mode u 0) (X .c) d
+        go : Dec (b .i ≡ u) → allTook tab ρ u a s d < own released tab u a (ρ .mode u 0) (X .c) (lastJob tab u a (X .c) d) d + others released tab u a d
         go (yes e) =
             omega (
               arith,
@@ -111,7 +101,7 @@ module _ (tab : Table) (positive : PeriodsPositive tab) (ρ : Run) (rules : Rule
     setting : Setting tab u a (ρ .mode u 0) (X .c)
     setting =
         record {
-          mode = rules .mode u 0 (here .owner);
+          mode = rules .permitted .mode u 0 (here .owner);
           runs = runs;
           place = X .place;
           candidate = go (ℕ-discrete (X .c) a);
@@ -119,21 +109,19 @@ module _ (tab : Table) (positive : PeriodsPositive tab) (ρ : Run) (rules : Rule
       where
         go : Dec (X .c ≡ a) → Candidate tab u a (ρ .mode u 0) (X .c)
         go (yes e) = inl e
-        go (no h) = inr (record { other = λ e. h (e .1); urgent = X .counts .0; runs = X .counts .1 })
+        go (no h) = inr (record { other = λ e. h (e .1); urgent = X .active .0; runs = X .active .1 })
 
     -- the job is ready within a busy length
     ready-within : (L : ℕ) → 1 ≤ L → busy tab u a (ρ .mode u 0) (X .c) L ≤ L → ρ .ready u a k < W .s + L
+    unfolding busy demand
     ready-within L some fits =
-        reach tab ρ rules u a k here holds W L _ some
-        (took-before-quiet start X runs L)
-        (omega (arith, busy-jobs tab u a (ρ .mode u 0) (X .c) L (positive u (here .owner)), own-jobs tab u a (ρ .mode u 0) (X .c) L))
+        reach tab ρ rules u a k here holds W L _ some (took-before-quiet start X runs L) (omega arith)
 
     -- and finished where its demand is met
     finished-by : (N w : ℕ) → Numbered tab ρ (W .s) u a k N → demand imposed tab u a (ρ .mode u 0) (X .c) (job tab u a (X .c) N) w ≤ w → Finished ρ u a k (W .s + w)
+    unfolding demand
     finished-by N w numbered fits =
-        complete tab ρ rules u a k here holds W w _
-        (took-before-finish start X k N w numbered)
-        (omega (arith, demand-job imposed tab u a (ρ .mode u 0) (X .c) N w))
+        complete tab ρ rules u a k here holds W w _ (took-before-finish start X k N w numbered) (omega arith)
 
     -- Counted from the candidate's instant the job is one of those by L, and arrives no later than counted from s
     finished : (R : ℕ) → CandidateBound tab u a (ρ .mode u 0) (X .c) R → Finished ρ u a k (eventTick tab ρ u k + R)
@@ -158,7 +146,7 @@ module _ (tab : Table) (positive : PeriodsPositive tab) (ρ : Run) (rules : Rule
         below =
             rw (jobs-by tab u a (X .c) (b .L) (positive u (here .owner)))
             (counted (positive u (here .owner)) (heldOf tab u (X .c) a) (x .N) (phaseOf tab u (X .c) a) (b .L)
-            (omega (arith, x .is, slid, ready-within (b .L) (b .some) (b .length), rules .arrived u a k here)))
+            (omega (arith, x .is, slid, ready-within (b .L) (b .some) (b .length), rules .permitted .arrived u a k here)))
 
         J : JobBound tab u a (ρ .mode u 0) (X .c) R (x .N)
         J = b .job (x .N) below
@@ -185,7 +173,7 @@ sound tab positive ρ rules u a k R here holds bounds = go (runs? tab u (ρ .mod
 
 -- a run that keeps the holding rule as document 01 has it keeps the wider one
 pub holds-widely : (tab : Table) (ρ : Run) (u a : ℕ) → Holds tab ρ u a → HoldsWidely tab ρ u a
-holds-widely tab ρ u a holds = λ s d stretch unbroken. holds s d stretch
+holds-widely tab ρ u a holds = λ s d unbroken. holds s d
 
 -- in every legal run
 pub safe : (tab : Table) → PeriodsPositive tab → (u a R : ℕ) → IsTask tab u a → Bounds tab u a R → Safe tab u a R

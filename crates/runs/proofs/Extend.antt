@@ -9,14 +9,15 @@ use native.Mathlib.Decide.{decLt, ℕ-discrete}
 use native.Mathlib.Omega.{arith}
 use lib.Arith.{le-zero}
 use Rattle.table.specs.Sum.{sum}
-use Rattle.table.specs.Table.{Table, IsTask, period, priority, blocking}
+use Rattle.table.specs.Table.{Table, IsTask, period, priority}
 use Rattle.table.specs.Kept.{Kept}
 use Rattle.analysis.specs.Choice.{when}
-use Rattle.analysis.specs.Run.{Slot, idle, job, Run, eventTick, arrival, serves, served}
-use Rattle.analysis.specs.Legal.{Rules, Pending, lower, lowerTicks, Holds, Legal}
-use Rattle.analysis.specs.Choices.{Permitted, RulesUpTo, HoldsUpTo, LegalUpTo, GoesOn, Extension}
-use Rattle.analysis.proofs.ExtendTicks.{withTicks, served-same, pending-same, lower-same}
-use Rattle.analysis.proofs.Dispatch.{choose, rank, dispatch, Due, DueIn, dispatch-due, dispatch-rank}
+use Rattle.runs.specs.Run.{Slot, idle, job, Run, eventTick, arrival, serves, served}
+use Rattle.runs.specs.Legal.{Rules, Pending, lower, lowerTicks, Holds, Legal}
+use Rattle.runs.specs.Choices.{Permitted}
+use Rattle.runs.specs.Beginning.{RulesUpTo, HoldsUpTo, LegalUpTo, GoesOn, Extension}
+use Rattle.runs.proofs.ExtendTicks.{withTicks, permitted-same, served-same, pending-same, lower-same}
+use Rattle.runs.proofs.Dispatch.{choose, rank, dispatch, Due, DueIn, dispatch-due, dispatch-rank}
 
 -- a tick serves a job or does not
 serves-cases : (i j k : ℕ) (s : Slot) → (serves i j k s ≡ 0) ⊎ ((serves i j k s ≡ 1) × (s ≡ job i j k))
@@ -75,7 +76,7 @@ rank-lower tab p (job i j k) h = go (decLt (priority tab i j) p)
     go (no d) = refl
 
 -- the ticks given to that job among those past, the newest first
-unfoldable pub given : ℕ → ℕ → ℕ → List Slot → ℕ
+unfoldable pub given : (i j k : ℕ) → List Slot → ℕ
 given i j k [] = 0
 given i j k (s ∷ past) = given i j k past + serves i j k s
 
@@ -101,7 +102,7 @@ module _ (tab : Table) (ρ : Run) (t0 : ℕ) where
   dispatched = withTicks ρ (λ v. newest (past (suc v)))
 
   -- the ticks given to each job before t
-  abbrev given-in : ℕ → ℕ → ℕ → ℕ → ℕ
+  abbrev given-in : (t i j k : ℕ) → ℕ
   given-in t i j k = given i j k (past t)
 
   given-served : (i j k t : ℕ) → given i j k (past t) ≡ served dispatched i j k t
@@ -144,21 +145,21 @@ module _ (tab : Table) (ρ : Run) (t0 : ℕ) where
     isTask : (v i j k : ℕ) → dispatched .at v ≡ job i j k → IsTask tab i j
     isTask v i j k e =
         elim (decLt v t0) [
-          | yes l ↦ r .isTask v i j k l (sym (before v l) ∙ e)
+          | yes l ↦ r .serving v i j k l (sym (before v l) ∙ e) .isTask
           | no l ↦ due v i j k (omega arith) e .isTask
         ]
 
     isReady : (v i j k : ℕ) → dispatched .at v ≡ job i j k → ρ .ready i j k ≤ v
     isReady v i j k e =
         elim (decLt v t0) [
-          | yes l ↦ r .isReady v i j k l (sym (before v l) ∙ e)
+          | yes l ↦ r .serving v i j k l (sym (before v l) ∙ e) .isReady
           | no l ↦ due v i j k (omega arith) e .pending .ready
         ]
 
     unfinished : (v i j k : ℕ) → dispatched .at v ≡ job i j k → served dispatched i j k v < ρ .need i j k
     unfinished v i j k e =
         elim (decLt v t0) [
-          | yes l ↦ omega (arith, served-before i j k v (omega arith), r .unfinished v i j k l (sym (before v l) ∙ e))
+          | yes l ↦ omega (arith, served-before i j k v (omega arith), r .serving v i j k l (sym (before v l) ∙ e) .unfinished)
           | no l ↦ omega (arith, given-served i j k v, due v i j k (omega arith) e .pending .unfinished)
         ]
 
@@ -170,7 +171,7 @@ module _ (tab : Table) (ρ : Run) (t0 : ℕ) where
     ordered : (v i j k : ℕ) → dispatched .at v ≡ job i j k → (l : ℕ) → l < k → served dispatched i j l v ≡ ρ .need i j l
     ordered v i j k e l b =
         elim (decLt v t0) [
-          | yes h ↦ served-before i j l v (omega arith) ∙ r .ordered v i j k h (sym (before v h) ∙ e) l b
+          | yes h ↦ served-before i j l v (omega arith) ∙ r .serving v i j k h (sym (before v h) ∙ e) .ordered l b
           | no h ↦
               let D : Due tab ρ (given-in v) v i j k = due v i j k (omega arith) e in
               let ready : ρ .ready i j l ≤ v = omega (arith, D .pending .ready, ready-grows tab ρ (r .permitted) i j l k (D .isTask) (omega arith)) in
@@ -180,20 +181,18 @@ module _ (tab : Table) (ρ : Run) (t0 : ℕ) where
 
     -- every rule but the holding rule
     pub dispatched-rules : Rules tab dispatched
-    unfolding dispatched arrival eventTick
+    unfolding dispatched
     dispatched-rules =
         record {
-          mode = r .permitted .mode;
-          steady = r .permitted .steady;
-          arrived = r .permitted .arrived;
-          prompt = λ i j k h. omega (arith, r .permitted .prompt i j k h);
-          inOrder = r .permitted .inOrder;
-          needMost = r .permitted .needMost;
-          needSome = r .permitted .needSome;
-          isTask = isTask;
-          isReady = isReady;
-          unfinished = unfinished;
-          ordered = ordered;
+          permitted = permitted-same tab ρ (dispatched .at) (r .permitted);
+          serving =
+              λ v i j k e.
+              record {
+                isTask = isTask v i j k e;
+                isReady = isReady v i j k e;
+                unfinished = unfinished v i j k e;
+                ordered = ordered v i j k e;
+              };
         }
 
     module _ (kept : Kept tab) where
@@ -223,9 +222,11 @@ module _ (tab : Table) (ρ : Run) (t0 : ℕ) where
           let p : ℕ = priority tab u a in
           elim (decLt (s + d) t0) [
             | yes l ↦
-                let kept-before : lowerTicks tab ρ p s (suc d) ≤ blocking tab u a =
-                h s (suc d) (omega arith) (λ v b. pending-same ρ (dispatched .at) t0 before tab p (s + v) (omega arith) (x v b)) in
-                omega (arith, lower-same ρ (dispatched .at) t0 before tab p s (suc d) (omega arith))
+                omega (
+                  arith,
+                  h s (suc d) (omega arith) (λ v b. pending-same ρ (dispatched .at) t0 before tab p (s + v) (omega arith) (x v b)),
+                  lower-same ρ (dispatched .at) t0 before tab p s (suc d) (omega arith),
+                )
             | no l ↦
                 omega (arith, dispatched-holds u a h s d (λ v b. x v (omega arith)), held p (s + d) (omega arith) (x d (omega arith)))
           ]

@@ -4,17 +4,17 @@ use Prim.Native.Nat.{ℕ, _+_}
 use Rattle.table.specs.Table.{Table, IsTask}
 use Rattle.table.specs.Kept.{Kept}
 use Rattle.periods.specs.Charge.{imposed}
-use Rattle.analysis.specs.Bound.{Bound}
+use Rattle.analysis.specs.Bound.{Bound, Tight}
 use Rattle.analysis.specs.Answer.{Answers, bound, kept}
 use Rattle.analysis.specs.Walk.{answer}
-use Rattle.analysis.specs.Run.{Run, Finished, eventTick}
-use Rattle.analysis.specs.Legal.{Rules, HoldsWidely}
-use Rattle.analysis.specs.Promise.{Safe, Tight}
+use Rattle.runs.specs.Run.{Run, Finished, eventTick}
+use Rattle.runs.specs.Legal.{Rules, HoldsWidely}
+use Rattle.runs.specs.Promise.{Safe}
 use Rattle.analysis.proofs.Charges.{kept-period, imposed-fair}
 use Rattle.analysis.proofs.Response.{bounds}
 use Rattle.analysis.proofs.Answer.{answer-bound}
 use Rattle.analysis.proofs.Whole.{tight}
-use Rattle.analysis.proofs.Sound.{sound, safe}
+use Rattle.runs.proofs.Sound.{sound, safe}
 
 module _ {tab : Table} (keeps : Kept tab) {u a : ℕ} (isTask : IsTask tab u a) where
   -- from the holding rule of that task alone, and in the wider reading of 'unbroken stretch'

@@ -1,52 +1,55 @@
 -- A transaction that keeps one mode, in a window that starts at a quiet tick s: what its tasks take of the window is at
 -- most what they charge when some candidate sets the critical instant, the one that can be ready first after s. As
--- another transaction than a's it is bounded by its greatest charge, as a's own by a's jobs and its charge.
+-- another transaction than a's it is bounded by its greatest charge, as a's own by what u charges with a's jobs.
 use mathlib.Core.Path.{_≡_, refl, ap, sym, subst, _∙_}
 use mathlib.Core.Logic.{_≢_, _⊎_, inl, inr, ⊎-map, Dec·and}
 use Prim.Native.Nat.{ℕ, suc, _+_, _*_, _-_, _%_, _≤_, _<_, zero-le}
-use native.Mathlib.Nat.{mod-add-mod, add-mod-mod, le-refl}
+use native.Mathlib.Nat.{mod-add-mod, add-mod-mod, le-refl, add-mul}
 use native.Mathlib.Decide.{decLe, ℕ-discrete}
 use native.Mathlib.Omega.{arith}
 use lib.IntN.{pos, _-ℤ_}
 use Rattle.table.specs.Table.{Table, IsTask, transactions, tasks, modes, period, offset, jitter, priority, time}
 use Rattle.table.proofs.Sum.{sum-le, sum-lt, sum-zero}
-use Rattle.periods.specs.Phase.{phase, held}
+use Rattle.periods.specs.Phase.{ceil, phase, held}
 use Rattle.periods.specs.Charge.{imposed, released}
 use Rattle.periods.proofs.Congruence.{Steps}
 use Rattle.periods.proofs.Phase.{phase-spec}
 use Rattle.periods.proofs.Charge.{imp, rel, imposed-is, released-is, imp-mono, imp-add, rel-mono, rel-add, imp≤rel}
 use Rattle.periods.proofs.Slide.{Slid, slide, slide-charge}
 use Rattle.analysis.specs.Choice.{when, most}
 use Rattle.analysis.specs.Rival.{Urgent, Runs, runs?, Rival, rival?}
 use Rattle.analysis.specs.Charge.{Later, phaseOf, heldOf, taskCharge, charge, greatest}
-use Rattle.analysis.specs.Run.{Run, eventTick, arrival, served}
-use Rattle.analysis.specs.Legal.{Rules}
+use Rattle.analysis.specs.Bound.{lastJob, own}
+use Rattle.analysis.specs.Needed.{job}
+use Rattle.runs.specs.Run.{Run, eventTick, arrival, served}
+use Rattle.runs.specs.Legal.{Rules}
 use Rattle.analysis.proofs.Choice.{when-yes, when-le, most-ge}
-use Rattle.analysis.proofs.Jobs.{Clear, arrives, took, index, took-unfinished, took-imposed, took-released}
-use Rattle.analysis.proofs.Task.{stream, served-done}
-use Rattle.analysis.proofs.Busy.{PeriodsPositive, Quiet, taskTook, levelTook}
-use Rattle.analysis.proofs.Apart.{apart-le, apart-lt}
-use Rattle.analysis.proofs.Search.{Lowest, search-lowest}
+use Rattle.analysis.proofs.Join.{own-job, own-by}
+use Rattle.runs.proofs.Jobs.{Clear, arrives, took, index, took-unfinished, took-imposed, took-released}
+use Rattle.runs.proofs.Task.{stream, served-done}
+use Rattle.runs.proofs.Busy.{PeriodsPositive, Quiet, taskTook, levelTook}
+use Rattle.runs.proofs.Apart.{apart-le, apart-lt}
+use Rattle.runs.proofs.Search.{Lowest, search-lowest}
 
 -- ---- one task, seen from s
 
 -- (s − event) mod T: the ticks from an event of transaction i to s, were there events before the first too
-unfoldable pub since : Table → Run → ℕ → ℕ → ℕ
+unfoldable pub since : Table → Run → (s i : ℕ) → ℕ
 since tab ρ s i = phase (period tab i) s (ρ .event i)
 
 -- the phase of task j when s is the instant, and the jobs of it that may be held back to s
-unfoldable pub phaseAt : Table → Run → ℕ → ℕ → ℕ → ℕ
+unfoldable pub phaseAt : Table → Run → (s i j : ℕ) → ℕ
 phaseAt tab ρ s i j = phase (period tab i) (offset tab i j) (since tab ρ s i)
 
-unfoldable pub heldAt : Table → Run → ℕ → ℕ → ℕ → ℕ
+unfoldable pub heldAt : Table → Run → (s i j : ℕ) → ℕ
 heldAt tab ρ s i j = held (period tab i) (jitter tab i j) (phaseAt tab ρ s i j)
 
 -- C in the mode that the run keeps
-abbrev pub timeIn : Table → Run → ℕ → ℕ → ℕ
+abbrev pub timeIn : Table → Run → (i j : ℕ) → ℕ
 timeIn tab ρ i j = time tab i (ρ .mode i 0) j
 
 -- job k is job N counted from the first that can be ready at s or later
-abbrev pub Numbered : Table → Run → ℕ → ℕ → ℕ → ℕ → ℕ → Type 0
+abbrev pub Numbered : Table → Run → (s i j k N : ℕ) → Type 0
 Numbered tab ρ s i j k N =
     arrival tab ρ i j k + heldAt tab ρ s i j * period tab i ≡ s + phaseAt tab ρ s i j + N * period tab i
 
@@ -57,7 +60,7 @@ pub record Left (ρ : Run) (i j t : ℕ) : Type 0 where
   pub unfinished : served ρ i j k t < ρ .need i j k
 
 pub need-most : (tab : Table) (ρ : Run) → Rules tab ρ → (i j : ℕ) → IsTask tab i j → (k : ℕ) → ρ .need i j k ≤ timeIn tab ρ i j
-need-most tab ρ rules i j here k = rw (rules .steady i k (here .owner)) at (rules .needMost i j k here)
+need-most tab ρ rules i j here k = rw (rules .permitted .steady i k (here .owner)) at (rules .permitted .needMost i j k here)
 
 module _ (tab : Table) (ρ : Run) (rules : Rules tab ρ) (s i j : ℕ) (here : IsTask tab i j) (positive : 0 < period tab i) where
   -- event, offset and phase fit: s is `since` after an event, and the phase with that makes the offset, but for periods
@@ -116,41 +119,41 @@ module _ (tab : Table) (ρ : Run) (rules : Rules tab ρ) (s i j : ℕ) (here : I
 -- ---- the critical instant
 
 -- a task of a's priority or above that runs in the mode that the run keeps
-abbrev pub Counts : Table → Run → ℕ → ℕ → ℕ → ℕ → Type 0
-Counts tab ρ u a i j = (Urgent tab u a i j) × (Runs tab i (ρ .mode i 0) j)
+abbrev pub Active : Table → Run → (u a i j : ℕ) → Type 0
+Active tab ρ u a i j = (Urgent tab u a i j) × (Runs tab i (ρ .mode i 0) j)
 
 -- The candidate that sets the critical instant: no such task can be ready sooner after s, so that the instant slides
 -- from s to the candidate's
 pub record Critical (tab : Table) (ρ : Run) (u a s i : ℕ) : Type 0 where
   pub c : ℕ
   pub place : c < tasks tab i
-  pub counts : Counts tab ρ u a i c
-  pub slid : (j : ℕ) → j < tasks tab i → Counts tab ρ u a i j → Slid (period tab i) (jitter tab i j) (phaseAt tab ρ s i j) (phaseOf tab i c j)
+  pub active : Active tab ρ u a i c
+  pub slid : (j : ℕ) → j < tasks tab i → Active tab ρ u a i j → Slid (period tab i) (jitter tab i j) (phaseAt tab ρ s i j) (phaseOf tab i c j)
 
-pub critical : (tab : Table) (ρ : Run) (u a s i : ℕ) → 0 < period tab i → Critical tab ρ u a s i ⊎ ((j : ℕ) → j < tasks tab i → ¬ (Counts tab ρ u a i j))
+pub critical : (tab : Table) (ρ : Run) (u a s i : ℕ) → 0 < period tab i → Critical tab ρ u a s i ⊎ ((j : ℕ) → j < tasks tab i → ¬ (Active tab ρ u a i j))
 unfolding phaseAt phaseOf
 critical tab ρ u a s i positive =
     ⊎-map
     first
     (λ r. r)
-    (search-lowest (tasks tab i) instant {D = Counts tab ρ u a i} (λ c. Dec·and (decLe _ _) (runs? tab i (ρ .mode i 0) c)))
+    (search-lowest (tasks tab i) instant {D = Active tab ρ u a i} (λ c. Dec·and (decLe _ _) (runs? tab i (ρ .mode i 0) c)))
   where
     instant : ℕ → ℕ
     instant c = phase (period tab i) (offset tab i c + jitter tab i c) (since tab ρ s i)
 
-    first : Lowest (tasks tab i) instant (Counts tab ρ u a i) → Critical tab ρ u a s i
+    first : Lowest (tasks tab i) instant (Active tab ρ u a i) → Critical tab ρ u a s i
     first x =
         record {
           c = x .i;
           place = x .below;
-          counts = x .has;
+          active = x .has;
           slid = λ j l h. slide positive (offset tab i j) (jitter tab i j) (since tab ρ s i) (offset tab i (x .i) + jitter tab i (x .i)) (x .lowest j l h);
         }
 
 -- What is needed of a charge of later jobs: over ℕ it is `cut`, never falls, rises by C with each period, and is at least
 -- the imposed one
 pub record Lawful (later : Later) : Type 0 where
-  pub cut : ℕ → ℕ → ℕ → ℕ
+  pub cut : (T C s : ℕ) → ℕ
   pub is : (T C t φ : ℕ) → later T C (pos t -ℤ pos φ) ≡ cut T C (t - φ)
   pub rises : (T C y z : ℕ) → 0 < T → y ≤ z → cut T C y ≤ cut T C z
   pub adds : (T C y : ℕ) → 0 < T → cut T C (y + T) ≡ cut T C y + C
@@ -210,14 +213,14 @@ module _ {tab : Table} {ρ : Run} {u a s : ℕ} (start : Start tab ρ u a s) whe
   left-runs i j t at x = omega (arith, need-most tab ρ (start .rules) i j at (x .k), x .unfinished)
 
   module _ {i : ℕ} (X : Critical tab ρ u a s i) where
-    took-charge : {later : Later} → Lawful later → (j d : ℕ) → IsTask tab i j → Counts tab ρ u a i j → taskTook ρ s d i j ≤ taskCharge later tab i (ρ .mode i 0) (X .c) d j
+    took-charge : {later : Later} → Lawful later → (j d : ℕ) → IsTask tab i j → Active tab ρ u a i j → taskTook ρ s d i j ≤ taskCharge later tab i (ρ .mode i 0) (X .c) d j
     unfolding heldAt
-    took-charge lawful j d at counts =
+    took-charge lawful j d at active =
         omega (
           arith,
-          took-imposed-of i j (timeIn tab ρ i j) d at (counts .0) (need-most tab ρ (start .rules) i j at),
+          took-imposed-of i j (timeIn tab ρ i j) d at (active .0) (need-most tab ρ (start .rules) i j at),
           lawful .above (period tab i) (timeIn tab ρ i j) (d - phaseAt tab ρ s i j) (start .positive i (at .owner)),
-          charge-slid lawful tab i (ρ .mode i 0) (X .c) j d (phaseAt tab ρ s i j) (start .positive i (at .owner)) (X .slid j (at .place) counts),
+          charge-slid lawful tab i (ρ .mode i 0) (X .c) j d (phaseAt tab ρ s i j) (start .positive i (at .owner)) (X .slid j (at .place) active),
         )
 
     took-left : (j d : ℕ) → IsTask tab i j → Urgent tab u a i j → Left ρ i j (s + d) → taskTook ρ s d i j < taskCharge released tab i (ρ .mode i 0) (X .c) d j
@@ -249,7 +252,7 @@ module _ {tab : Table} {ρ : Run} {u a s : ℕ} (start : Start tab ρ u a s) whe
   -- ---- as another transaction
 
   module _ (i : ℕ) (owner : i < transactions tab) (other : i ≢ u) where
-    level-none : (d : ℕ) → ((j : ℕ) → j < tasks tab i → ¬ (Counts tab ρ u a i j)) → levelTook tab ρ (priority tab u a) s d i ≡ 0
+    level-none : (d : ℕ) → ((j : ℕ) → j < tasks tab i → ¬ (Active tab ρ u a i j)) → levelTook tab ρ (priority tab u a) s d i ≡ 0
     unfolding levelTook when
     level-none d none = sum-zero (tasks tab i) (λ j place. go j place (decLe (priority tab u a) (priority tab i j)))
       where
@@ -263,19 +266,19 @@ module _ {tab : Table} {ρ : Run} {u a s : ℕ} (start : Start tab ρ u a s) whe
     unfolding greatest
     greatest-ge later d X =
         let over : ℕ → ℕ → ℕ = λ m c. when (rival? tab u a i m c) (charge later tab u a i m c d) in
-        let r : Rival tab u a i (ρ .mode i 0) (X .c) = record { other = λ e. other (e .0); urgent = X .counts .0; runs = X .counts .1 } in
+        let r : Rival tab u a i (ρ .mode i 0) (X .c) = record { other = λ e. other (e .0); urgent = X .active .0; runs = X .active .1 } in
         omega (
           arith,
           when-yes (rival? tab u a i (ρ .mode i 0) (X .c)) (charge later tab u a i (ρ .mode i 0) (X .c) d) r,
           most-ge (tasks tab i) (over (ρ .mode i 0)) (X .c) (X .place),
-          most-ge (modes tab i) (λ m. most (tasks tab i) (over m)) (ρ .mode i 0) (start .rules .mode i 0 owner),
+          most-ge (modes tab i) (λ m. most (tasks tab i) (over m)) (ρ .mode i 0) (start .rules .permitted .mode i 0 owner),
         )
 
     pub other-charge : {later : Later} → Lawful later → (d : ℕ) → levelTook tab ρ (priority tab u a) s d i ≤ greatest later tab u a i d
     unfolding levelTook charge
     other-charge {later} lawful d = go (critical tab ρ u a s i (start .positive i owner))
       where
-        go : Critical tab ρ u a s i ⊎ ((j : ℕ) → j < tasks tab i → ¬ (Counts tab ρ u a i j)) → levelTook tab ρ (priority tab u a) s d i ≤ greatest later tab u a i d
+        go : Critical tab ρ u a s i ⊎ ((j : ℕ) → j < tasks tab i → ¬ (Active tab ρ u a i j)) → levelTook tab ρ (priority tab u a) s d i ≤ greatest later tab u a i d
         go (inl X) =
             omega (
               arith,
@@ -288,7 +291,7 @@ module _ {tab : Table} {ρ : Run} {u a s : ℕ} (start : Start tab ρ u a s) whe
     unfolding levelTook charge
     other-left j d at urgent x = go (critical tab ρ u a s i (start .positive i owner))
       where
-        go : Critical tab ρ u a s i ⊎ ((j : ℕ) → j < tasks tab i → ¬ (Counts tab ρ u a i j)) → levelTook tab ρ (priority tab u a) s d i < greatest released tab u a i d
+        go : Critical tab ρ u a s i ⊎ ((j : ℕ) → j < tasks tab i → ¬ (Active tab ρ u a i j)) → levelTook tab ρ (priority tab u a) s d i < greatest released tab u a i d
         go (inl X) =
             omega (
               arith,
@@ -314,24 +317,39 @@ module _ {tab : Table} {ρ : Run} {u a s : ℕ} (start : Start tab ρ u a s) whe
         )
 
     -- a's jobs up to N, the last of them unfinished, and what the rivals impose
-    pub own-unfinished : (k N d : ℕ) → Numbered tab ρ s u a k N → served ρ u a k (s + d) < ρ .need u a k → levelTook tab ρ (priority tab u a) s d u < suc N * timeIn tab ρ u a + charge imposed tab u a u (ρ .mode u 0) (X .c) d
+    pub own-unfinished : (k N d : ℕ) → Numbered tab ρ s u a k N → served ρ u a k (s + d) < ρ .need u a k → levelTook tab ρ (priority tab u a) s d u < own imposed tab u a (ρ .mode u 0) (X .c) (job tab u a (X .c) N) d
     own-unfinished k N d numbered left =
         omega (
           arith,
+          own-job imposed tab u a (ρ .mode u 0) (X .c) N d,
           own-charge imposed-lawful d,
           task-unfinished tab ρ (start .rules) s u a (start .here) (start .positive u (start .here .owner)) (λ l. start .quiet u a l (start .here) (le-refl (priority tab u a))) k N d numbered left,
+        )
+
+    -- what u charges by d: a's jobs by then as a charge, and its rivals'
+    own-by-now : (d : ℕ) → taskCharge released tab u (ρ .mode u 0) (X .c) d a + charge released tab u a u (ρ .mode u 0) (X .c) d ≡ own released tab u a (ρ .mode u 0) (X .c) (lastJob tab u a (X .c) d) d
+    unfolding taskCharge rel
+    own-by-now d =
+        let T : ℕ = period tab u in
+        let C : ℕ = timeIn tab ρ u a in
+        let F : ℕ = phaseOf tab u (X .c) a in
+        omega (
+          arith,
+          own-by released tab u a (ρ .mode u 0) (X .c) d (start .positive u (start .here .owner)),
+          released-is T C d F,
+          add-mul (heldOf tab u (X .c) a) (ceil (d - F) T) C,
         )
 
     module _ (runs : Runs tab u (ρ .mode u 0) a) where
       own-task : (d : ℕ) → taskTook ρ s d u a ≤ taskCharge released tab u (ρ .mode u 0) (X .c) d a
       own-task d = took-charge X released-lawful a d (start .here) (le-refl (priority tab u a), runs)
 
-      pub own-released : (d : ℕ) → levelTook tab ρ (priority tab u a) s d u ≤ taskCharge released tab u (ρ .mode u 0) (X .c) d a + charge released tab u a u (ρ .mode u 0) (X .c) d
-      own-released d = omega (arith, own-charge released-lawful d, own-task d)
+      pub own-released : (d : ℕ) → levelTook tab ρ (priority tab u a) s d u ≤ own released tab u a (ρ .mode u 0) (X .c) (lastJob tab u a (X .c) d) d
+      own-released d = omega (arith, own-charge released-lawful d, own-task d, own-by-now d)
 
-      pub own-left : (j d : ℕ) → IsTask tab u j → Urgent tab u a u j → Left ρ u j (s + d) → levelTook tab ρ (priority tab u a) s d u < taskCharge released tab u (ρ .mode u 0) (X .c) d a + charge released tab u a u (ρ .mode u 0) (X .c) d
+      pub own-left : (j d : ℕ) → IsTask tab u j → Urgent tab u a u j → Left ρ u j (s + d) → levelTook tab ρ (priority tab u a) s d u < own released tab u a (ρ .mode u 0) (X .c) (lastJob tab u a (X .c) d) d
       unfolding levelTook charge
-      own-left j d at urgent x = go (ℕ-discrete j a)
+      own-left j d at urgent x = rw (← own-by-now d) (go (ℕ-discrete j a))
         where
           go : Dec (j ≡ a) → levelTook tab ρ (priority tab u a) s d u < taskCharge released tab u (ρ .mode u 0) (X .c) d a + charge released tab u a u (ρ .mode u 0) (X .c) d
           go (yes e) =
