@@ -110,6 +110,16 @@ impl Transaction {
     pub const SPARE_CELL: usize = 4;
 
     pub const CELLS: usize = 5;
+
+    pub fn new(period: u32, modes: usize, tasks: usize) -> Transaction
+        ensures { λ r. ⌜ r ≡ record { period = period; modes = modes; tasks = tasks } ⌝ }
+    {
+        Transaction {
+            period,
+            modes,
+            tasks,
+        }
+    }
 }
 
 // What stands before the times of a task.
@@ -162,4 +172,16 @@ impl Task {
     pub const TIMES_CELL: usize = 6;
 
     pub const CELLS: usize = Task::TIMES_CELL + Transaction::MODES;
+
+    pub fn new(offset: u32, jitter: u32, blocking: u32, deadline: u32, priority: u32) -> Task
+        ensures { λ r. ⌜ r ≡ record { offset = offset; jitter = jitter; blocking = blocking; deadline = deadline; priority = priority } ⌝ }
+    {
+        Task {
+            offset,
+            jitter,
+            blocking,
+            deadline,
+            priority,
+        }
+    }
 }
