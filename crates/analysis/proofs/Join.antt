@@ -14,11 +14,15 @@ use Rattle.analysis.specs.Charge.{Later, phaseOf, heldOf, charge, rivals
 use Rattle.analysis.specs.Bound.{firstJob, lastJob, jobsTo, own, demand}
 use Rattle.analysis.specs.Needed.{job, start}
 
--- up to job p0 + N there are suc N jobs
+-- up to job p0 + N there are suc N jobs: p − p0 + 1 is not negative, so that no count of them is clamped
+pub signed-to-job : (tab : Table) (u a c N : ℕ) → job tab u a c N -ℤ firstJob tab u a c +ℤ pos 1 ≡ pos (suc N)
+unfolding job
+signed-to-job tab u a c N =
+    rw (+ℤ-comm (firstJob tab u a c) (pos N), +ℤ-negℤ-cancel (pos N) (firstJob tab u a c)) (ap pos (omega arith))
+
 pub jobs-to-job : (tab : Table) (u a c N : ℕ) → jobsTo tab u a c (job tab u a c N) ≡ suc N
-unfolding jobsTo job count
-jobs-to-job tab u a c N =
-    rw (+ℤ-comm (firstJob tab u a c) (pos N), +ℤ-negℤ-cancel (pos N) (firstJob tab u a c)) (omega arith)
+unfolding jobsTo count
+jobs-to-job tab u a c N = ap count (signed-to-job tab u a c N)
 
 pub own-job : (later : Later) (tab : Table) (u a m c N t : ℕ) → own later tab u a m c (job tab u a c N) t ≡ suc N * time tab u m a + charge later tab u a u m c t
 unfolding own
@@ -36,16 +40,17 @@ from-first h q =
     )
     (ap pos (add-comm q h))
 
--- the jobs by t: those held back to the instant, and those after it
-pub jobs-by : (tab : Table) (u a c t : ℕ) → 0 < period tab u → jobsTo tab u a c (lastJob tab u a c t) ≡ heldOf tab u c a + ceil (t - phaseOf tab u c a) (period tab u)
-unfolding jobsTo lastJob firstJob count phaseOf
-jobs-by tab u a c t h =
+-- the jobs by t, those held back to the instant and those after it: p − p0 + 1 is not negative here either
+pub signed-by : (tab : Table) (u a c t : ℕ) → 0 < period tab u → lastJob tab u a c t -ℤ firstJob tab u a c +ℤ pos 1 ≡ pos (heldOf tab u c a + ceil (t - phaseOf tab u c a) (period tab u))
+unfolding lastJob firstJob phaseOf
+signed-by tab u a c t h =
     let small : phaseOf tab u c a < period tab u = phase-lt h _ _ in
-    rw (
-      ceiling-is (period tab u) t (phaseOf tab u c a) (omega arith),
-      from-first (heldOf tab u c a) (ceil (t - phaseOf tab u c a) (period tab u)),
-    )
-    refl
+    rw (ceiling-is (period tab u) t (phaseOf tab u c a) (omega arith))
+    (from-first (heldOf tab u c a) (ceil (t - phaseOf tab u c a) (period tab u)))
+
+pub jobs-by : (tab : Table) (u a c t : ℕ) → 0 < period tab u → jobsTo tab u a c (lastJob tab u a c t) ≡ heldOf tab u c a + ceil (t - phaseOf tab u c a) (period tab u)
+unfolding jobsTo count
+jobs-by tab u a c t h = ap count (signed-by tab u a c t h)
 
 pub own-by : (later : Later) (tab : Table) (u a m c t : ℕ) → 0 < period tab u → own later tab u a m c (lastJob tab u a c t) t ≡ (heldOf tab u c a + ceil (t - phaseOf tab u c a) (period tab u)) * time tab u m a + charge later tab u a u m c t
 unfolding own
