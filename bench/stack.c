@@ -1,0 +1,68 @@
+/* How many bytes of stack one call of sumpcandle_response takes: it is called on a stack of a known pattern, and so is a
+   function that does nothing; the difference of what the two leave changed is printed.
+
+   stack FILE...    asks for every task of each image, and prints the greatest */
+
+#define _POSIX_C_SOURCE 200809L
+
+#include <pthread.h>
+#include <stdio.h>
+#include <stdlib.h>
+#include <string.h>
+
+#include "sumpcandle.h"
+
+enum { SIZE = 1 << 20, LONGEST = 8192, BUDGET = 2000, PATTERN = 0xA5 };
+
+static uint8_t image[LONGEST];
+static size_t length;
+
+static void *nothing(void *task) { return task; }
+
+static void *asks(void *task) {
+    for (uint32_t k = 0; sumpcandle_number(sumpcandle_response(image, length, k, BUDGET)) != SUMPCANDLE_NO_TASK; k++) {
+        if (!sumpcandle_is_code(sumpcandle_response(image, length, k, BUDGET))) {
+            break;
+        }
+    }
+    return task;
+}
+
+static size_t used(uint8_t *stack, void *(*called)(void *)) {
+    pthread_attr_t attributes;
+    pthread_t thread;
+    memset(stack, PATTERN, SIZE);
+    if (pthread_attr_init(&attributes) || pthread_attr_setstack(&attributes, stack, SIZE) ||
+        pthread_create(&thread, &attributes, called, NULL) || pthread_join(thread, NULL)) {
+        fputs("stack: no thread\n", stderr);
+        exit(3);
+    }
+    size_t free_bytes = 0;
+    while (free_bytes < SIZE && stack[free_bytes] == PATTERN) {
+        free_bytes++;
+    }
+    return SIZE - free_bytes;
+}
+
+int main(int count, char **arguments) {
+    uint8_t *stack = aligned_alloc(4096, SIZE);
+    size_t most = 0;
+    if (stack == NULL || count < 2) {
+        fputs("usage: stack FILE...\n", stderr);
+        return 3;
+    }
+    size_t before = used(stack, nothing);
+    for (int i = 1; i < count; i++) {
+        FILE *file = fopen(arguments[i], "rb");
+        if (file == NULL) {
+            perror(arguments[i]);
+            return 3;
+        }
+        length = fread(image, 1, LONGEST, file);
+        fclose(file);
+        size_t now = used(stack, asks);
+        most = now > most ? now : most;
+    }
+    printf("%zu\n", most - before);
+    return 0;
+}
