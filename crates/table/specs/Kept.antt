@@ -21,7 +21,7 @@ use Rattle.table.specs.Limits.{
 use Rattle.table.specs.Number.{inAll}
 
 -- a mode in which the times of a task are not 0
-pub record Runs (times : List ℕ) : Type 0 where
+pub record RunsSometime (times : List ℕ) : Type 0 where
   pub mode : ℕ
   pub within : mode < length times
   pub some : 0 < getD times mode 0
@@ -36,7 +36,7 @@ pub record KeptTask (modes : ℕ) (t : Task) : Type 0 where
   pub priority : t .priority < 2 ^ priorityWidth
   pub times : length (t .times) ≡ modes
   pub time : (m : ℕ) → m < modes → getD (t .times) m 0 < 2 ^ timeWidth
-  pub runs : Runs (t .times)
+  pub runs : RunsSometime (t .times)
 
 -- a transaction of a table with that major frame
 pub record KeptTransaction (frame : ℕ) (x : Transaction) : Type 0 where

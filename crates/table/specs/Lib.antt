@@ -2,6 +2,8 @@ pub mod Sum
 pub mod Lists
 pub mod Table
 pub mod Limits
+pub mod Fields
+pub mod Rules
 pub mod Kept
 pub mod Number
 pub mod Computing
