@@ -1,4 +1,5 @@
--- What is known of an accepted image: by a table's rules its header, heads and tasks are sound, and so is its end.
+-- What is known of an accepted image: by a table's rules its header, heads and tasks are sound, and so is its end. (The
+-- computed cases are brought in so that they are checked first.)
 use mathlib.Core.Path.{_≡_}
 use mathlib.Core.List.{List}
 use Prim.Native.Nat.{ℕ, zero, suc, _+_, _-_, _*_, _≤_, _<_}
@@ -12,6 +13,7 @@ use Rattle.table.specs.Fields.{TaskField, widthInHeader, widthInHead, widthInTa
 use Rattle.table.proofs.Rules as rules
 use Rattle.refusals.specs.declared.Answer.the-variants.{Accepted}
 use Rattle.refusals.proofs.Findings.{then-joins, none-first, none-second, held}
+use Rattle.format.specs.Cases
 use Rattle.format.specs.Places.{placeInHeader, placeInHead, placeInTask, timeAt, taskAt, start, bytesTo}
 use Rattle.format.specs.Said.{frameIn, countIn, modesIn, tasksIn, tasksBefore}
 use Rattle.format.specs.Fault.{lookAt, imageLook, headerFault, headFault, endFault, imageFault, IsAccepted}

@@ -98,6 +98,40 @@ numbers : map (λ image. answerNumber (imageFault image)) (last ∷ faulty) ≡ 
 unfolding computing
 numbers = refl
 
+-- a field is checked as soon as it is complete: each image ends in the field behind a faulty one, and the same image with
+-- nothing wrong shows where
+abbrev endsBehind : List (List ℕ)
+endsBehind =
+    take 4 (set last 3 0x00)
+    ∷ take 4 last
+    ∷ take 5 (set last 4 0x00)
+    ∷ take 5 last
+    ∷ take 8 (set last 6 0x01)
+    ∷ take 8 (set last 7 0x80)
+    ∷ take 8 last
+    ∷ take 9 (set last 8 0x00)
+    ∷ take 9 last
+    ∷ take 21 (set last 20 0x00)
+    ∷ take 21 last
+    ∷ []
+
+first-faults :
+    map imageFault endsBehind
+    ≡ Refused FrameZero 4
+    ∷ Refused EndsInside 28
+    ∷ Refused TransactionCount 28
+    ∷ Refused EndsInside 34
+    ∷ Refused PeriodUnfit 34
+    ∷ Refused ModeCount 58
+    ∷ Refused EndsInside 62
+    ∷ Refused TaskCount 62
+    ∷ Refused EndsInside 67
+    ∷ Refused DeadlineZero 139
+    ∷ Refused EndsInside 165
+    ∷ []
+unfolding computing
+first-faults = refl
+
 -- the sum so far with this transaction's one task: 64, and 65
 with-63-before : headFault last 63 34 ≡ Accepted
 unfolding computing

@@ -1,8 +1,9 @@
--- Ranges of the fields of a table that keeps its bounds.
+-- Ranges of the fields of a table that keeps its bounds. (The computed cases are brought in so that they are checked first.)
 use Prim.Native.Nat.{ℕ, _^_, _≤_, _<_}
 use native.Mathlib.Nat.{mod-eq-of-lt}
 use native.Mathlib.Decide.{decLt}
 use native.Mathlib.Omega.{arith}
+use Rattle.table.specs.Cases
 use Rattle.table.specs.Limits.{modesMost, tasksMost}
 use Rattle.table.specs.Table.{Table, IsTask, transactions, period, modes, tasks, task, offset, jitter, time}
 use Rattle.table.specs.Kept.{Kept}

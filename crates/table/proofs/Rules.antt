@@ -1,5 +1,5 @@
 -- No finding by a table's rules, part by part: then every field is there and each check held, and the other way round. It
--- holds under any limits and of any way to join findings.
+-- holds under any limits and of any way to join findings. (The computed cases are brought in so that they are checked first.)
 use mathlib.Core.Path.{_≡_}
 use mathlib.Core.Bool.{Bool, true}
 use Prim.Native.Nat.{ℕ, _+_, _%_, _≤_, _<_}
@@ -12,6 +12,7 @@ use Rattle.refusals.proofs.Findings.{Joins, none-of, none-in-all, held, holds, 
 use Rattle.table.specs.Sum.{sum}
 use Rattle.table.specs.Limits.{Limits, editionKnown}
 use Rattle.table.specs.Fields.{HeaderField, HeadField, TaskField, Field, IsTaskField}
+use Rattle.table.specs.RuleCases
 use Rattle.table.specs.Rules.{Look, part, isBetween, rule, headerRules, headRules, taskRules, transactionRules, bodyRules, tableRules}
 
 -- ---- what holds where there is no finding

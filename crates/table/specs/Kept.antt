@@ -2,6 +2,8 @@
 use mathlib.Core.Path.{_≡_}
 use mathlib.Core.List.{List}
 use Prim.Native.Nat.{ℕ, _≤_, _<_, _^_, _%_}
+use native.Mathlib.Omega.{arith}
+use lib.Dec.{lit<}
 use lib.ListN.{length, getD}
 use Rattle.table.specs.Table.{Task, Transaction, Table, transactions, transaction, noTask}
 use Rattle.table.specs.Limits.{
@@ -19,6 +21,7 @@ use Rattle.table.specs.Limits.{
   timeWidth,
 }
 use Rattle.table.specs.Number.{inAll}
+use Rattle.table.specs.Sample.{plain, lone}
 
 -- a mode in which the times of a task are not 0
 pub record RunsSometime (times : List ℕ) : Type 0 where
@@ -56,3 +59,10 @@ pub record Kept (tab : Table) : Type 0 where
   pub fewTransactions : transactions tab ≤ transactionsMost
   pub fewTasks : inAll tab ≤ tasksInAll
   pub each : (u : ℕ) → u < transactions tab → KeptTransaction (tab .frame) (transaction tab u)
+
+-- a deadline 0 is not kept
+pub late-not-kept : ¬ (Kept (lone 10 (plain 0 3 5 0)))
+unfolding transactions transaction
+late-not-kept k =
+    let due : 1 ≤ 0 = k .each 0 (lit< tt) .each 0 (lit< tt) .due in
+    omega arith

@@ -9,3 +9,4 @@ pub mod Number
 pub mod Computing
 pub mod Sample
 pub mod Cases
+pub mod RuleCases
