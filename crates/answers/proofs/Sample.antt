@@ -5,28 +5,16 @@ use mathlib.Core.List.{List, [], _∷_}
 use Prim.Native.Nat.{ℕ, zero, suc, _≤_}
 use native.Mathlib.Omega.{arith}
 use lib.ListN.{length, drop}
-use Rattle.bits.specs.Bits.{bitAt, valueAt}
-use Rattle.table.specs.Sum.{sum}
 use Rattle.table.specs.Table.{Table, IsTask, deadline}
 use Rattle.table.specs.Number.{number}
 use Rattle.table.specs.Kept.{Kept}
 use Rattle.table.specs.Sample.{S}
 use Rattle.refusals.specs.declared.Answer.the-variants.{Refused}
 use Rattle.refusals.specs.declared.Refusal.the-variants.{EndsInside}
-use Rattle.refusals.specs.Answer.{_then_, firstOf, checked}
-use Rattle.table.specs.Lists.{listOf, joined}
-use Rattle.format.specs.Places.{past, start}
-use Rattle.format.specs.Said.{taskIn, transactionIn, tableIn, tasksBefore}
-use Rattle.format.specs.Fault.{
-  headerFault,
-  taskFault,
-  headFault,
-  transactionFault,
-  endFault,
-  bodyFault,
-  imageFault,
-}
-use Rattle.format.specs.Fault.{IsAccepted}
+use Rattle.table.specs.Lists.{joined}
+use Rattle.format.specs.Said.{tableIn}
+use Rattle.format.specs.Fault.{imageFault, IsAccepted}
+use Rattle.format.specs.Computing.{computing as reading}
 use Rattle.format.proofs.Kept.{kept}
 use Rattle.periods.specs.Charge.{imposed}
 use Rattle.analysis.specs.Answer.{Answer, bound, Cells, cells}
@@ -39,11 +27,6 @@ use Rattle.answers.specs.declared.Filled.the-variants as filled
 use Rattle.answers.specs.Told.{listed, Owed, FillsFrom, Fills, paired, RespondsFrom, Responds}
 use Rattle.answers.proofs.Told.{owed}
 use Rattle.answers.proofs.Agree.{written-joined, fills-unique, responds-unique}
-
--- one name that opens every definition on the way from bytes to a table
-reading : Unit {0}
-unfolding bitAt valueAt sum _then_ firstOf checked listOf past start taskIn transactionIn tableIn tasksBefore headerFault taskFault headFault transactionFault endFault bodyFault imageFault
-reading = tt
 
 -- the image of S
 abbrev pub imageS : List ℕ

@@ -111,6 +111,8 @@ fn reason(refusal: Refusal) {
         Refusal::NeverRuns => say(b"a task with time 0 in every mode"),
         Refusal::PaddingSet => say(b"a padding bit is 1"),
         Refusal::BytesFollow => say(b"bytes follow the table"),
+        Refusal::NoRoom => say(b"too few cells for the answers"),
+        Refusal::NoTask => say(b"no task of that number"),
     }
 }
 

@@ -1,94 +1,68 @@
--- An accepted image says a table that keeps every bound and every field's range.
-use mathlib.Core.Path.{_≡_, _∙_}
+-- An accepted image says a table that keeps every bound and every field's range: what the rules ask of the image they ask of
+-- that table, whose numbers all come from fields of their widths.
+use mathlib.Core.Path.{_≡_, sym, ap, _∙_}
 use mathlib.Core.List.{List}
-use Prim.Native.Nat.{ℕ, zero, suc, _≤_, _<_}
-use native.Mathlib.Decide.{decLt}
-use native.Mathlib.Omega.{arith}
-use lib.ListN.{length}
+use Prim.Native.Nat.{ℕ, _<_}
+use lib.ListN.{length, getD}
 use Rattle.bits.proofs.Fields.{value-below}
-use Rattle.table.specs.Sum.{sum}
-use Rattle.table.specs.Table.{noTask}
-use Rattle.table.specs.Limits.{frameWidth, offsetWidth, jitterWidth, blockingWidth, deadlineWidth, priorityWidth, timeWidth}
-use Rattle.table.specs.Kept.{Runs, KeptTask, KeptTransaction, Kept}
-use Rattle.table.specs.Lists.{listOf}
-use Rattle.format.specs.Places.{frameAt, taskAt, start}
-use Rattle.format.specs.Said.{frameIn, countIn, modesIn, tasksIn, timeIn, taskIn, transactionIn, tableIn, tasksBefore}
-use Rattle.format.specs.Fault.{IsAccepted}
+use Rattle.refusals.proofs.Findings.{then-joins, none-first}
+use Rattle.table.specs.Table.{Task, IsTask, modes, tasks, task, offset, jitter, blocking, deadline, priority, time}
+use Rattle.table.specs.Fields.{HeaderField, HeadField, TaskField, Field, width, numberIn, IsField, Fits, Timed}
+use Rattle.table.specs.Kept.{Kept}
 use Rattle.table.proofs.Lists.{length-listOf, getD-listOf}
-use Rattle.format.proofs.Accepted.{SoundHead, SoundTask, header, head, task, few-tasks}
-use Rattle.format.proofs.Said.{said-edition, said-frame, said-transactions, said-transaction, said-in-all}
+use Rattle.table.proofs.Accepted.{Reads, rules-keep}
+use Rattle.format.specs.Places.{taskAt, start}
+use Rattle.format.specs.Said.{countIn, modesIn, timeIn, taskIn, tableIn}
+use Rattle.format.specs.Fault.{imageLook, imageFault, IsAccepted}
+use Rattle.format.proofs.Said.{said-edition, said-frame, said-transactions, said-period, said-modes, said-tasks, said-task}
 
--- a sum that is not 0 has a term that is not 0
-some-term : (n : ℕ) (f : ℕ → ℕ) → 1 ≤ sum n f → Runs (listOf n f)
-unfolding sum
-some-term zero f h = absurd (omega arith)
-some-term (suc n) f h =
-    elim (decLt 0 (f n)) [
-      | yes l ↦
-          record {
-            mode = n;
-            within = rw length-listOf (omega arith);
-            some = rw (getD-listOf (suc n) f n 0 (omega arith)) l;
-          }
-      | no l ↦
-          let earlier : Runs (listOf n f) = some-term n f (omega arith) in
-          let below : earlier .mode < n = rw (length-listOf n f) at (earlier .within) in
-          record {
-            mode = earlier .mode;
-            within = rw length-listOf (omega arith);
-            some =
-                rw (getD-listOf (suc n) f (earlier .mode) 0 (omega arith))
-                (rw (getD-listOf n f (earlier .mode) 0 below) at (earlier .some));
-          }
-    ]
+module _ (image : List ℕ) where
+  owner : {u j : ℕ} → IsTask (tableIn image) u j → u < countIn image
+  owner is = rw (said-transactions image) at (is .owner)
 
-kept-task : (image : List ℕ) (m q : ℕ) → SoundTask image m q → KeptTask m (taskIn image m q)
-unfolding taskIn
-kept-task image m q sound =
-    record {
-      offset = value-below image _ offsetWidth;
-      jitter = value-below image _ jitterWidth;
-      blocking = value-below image _ blockingWidth;
-      deadline = value-below image _ deadlineWidth;
-      due = sound .due;
-      priority = value-below image _ priorityWidth;
-      times = length-listOf m (timeIn image q);
-      time = λ k below. rw (getD-listOf m (timeIn image q) k 0 below) (value-below image _ timeWidth);
-      runs = some-term m (timeIn image q) (sound .runs);
-    }
+  task-read :
+      {u j : ℕ}
+      → IsTask (tableIn image) u j
+      → taskIn image (modesIn image (start image u)) (taskAt (start image u) (modesIn image (start image u)) j)
+      ≡ task (tableIn image) u j
+  task-read {u} {j} is = sym (said-task image u j (owner is) (rw (said-tasks image u (owner is)) at (is .place)))
 
-module _ (image : List ℕ) (ok : IsAccepted image) where
-  kept-transaction : (u : ℕ) → u < countIn image → KeptTransaction (frameIn image) (transactionIn image (start image u))
-  unfolding transactionIn
-  kept-transaction u below =
+  number-read : (f : Field) → IsField (tableIn image) f → imageLook image .number f ≡ numberIn (tableIn image) f
+  unfolding numberIn offset jitter blocking deadline priority time taskIn
+  number-read (Field.header HeaderField.edition) has = sym (said-edition image)
+  number-read (Field.header HeaderField.frame) has = sym (said-frame image)
+  number-read (Field.header HeaderField.count) has = sym (said-transactions image)
+  number-read (Field.head u HeadField.period) has = sym (said-period image u (rw (said-transactions image) at has))
+  number-read (Field.head u HeadField.modes) has = sym (said-modes image u (rw (said-transactions image) at has))
+  number-read (Field.head u HeadField.tasks) has = sym (said-tasks image u (rw (said-transactions image) at has))
+  number-read (Field.task u j TaskField.offset) has = ap (λ (t : Task). t .offset) (task-read (has .0))
+  number-read (Field.task u j TaskField.jitter) has = ap (λ (t : Task). t .jitter) (task-read (has .0))
+  number-read (Field.task u j TaskField.blocking) has = ap (λ (t : Task). t .blocking) (task-read (has .0))
+  number-read (Field.task u j TaskField.deadline) has = ap (λ (t : Task). t .deadline) (task-read (has .0))
+  number-read (Field.task u j TaskField.priority) has = ap (λ (t : Task). t .priority) (task-read (has .0))
+  number-read (Field.task u j (TaskField.time m)) has =
       let p = start image u in
-      let sound : SoundHead image (tasksBefore image u) p = head image ok u below in
-      let count : length (transactionIn image p .tasks) ≡ tasksIn image p = length-listOf (tasksIn image p) _ in
+      let q : ℕ = taskAt p (modesIn image p) j in
+      let below : m < modesIn image p = rw (said-modes image u (owner (has .0))) at (has .1) in
+      sym (getD-listOf (modesIn image p) (timeIn image q) m 0 below) ∙ ap (λ (t : Task). getD (t .times) m 0) (task-read (has .0))
+
+  reads : Reads (imageLook image) (tableIn image)
+  reads = record { number = number-read }
+
+  fits : Fits (tableIn image)
+  fits = record { below = λ f has. rw (← number-read f has) (value-below image _ (width f)) }
+
+  timed : Timed (tableIn image)
+  unfolding taskIn
+  timed =
       record {
-        period = sound .period;
-        divides = sound .divides;
-        someMode = sound .someMode;
-        fewModes = sound .fewModes;
-        someTask = rw count (sound .someTask);
-        fewTasks = rw count (sound .fewTasks);
-        each =
-            λ j within.
-            let here : j < tasksIn image p = rw count at within in
-            rw (getD-listOf (tasksIn image p) (λ i. taskIn image (modesIn image p) (taskAt p (modesIn image p) i)) j noTask here)
-            (kept-task image (modesIn image p) _ (task image ok u j below here));
+        times =
+            λ u j is.
+            ap (λ (t : Task). length (t .times)) (sym (task-read is))
+            ∙ length-listOf (modesIn image (start image u)) _
+            ∙ sym (said-modes image u (owner is));
       }
 
-  pub kept : Kept (tableIn image)
-  kept =
-      record {
-        edition = said-edition image ∙ header image ok .edition;
-        someFrame = rw (said-frame image) (header image ok .frame);
-        frame = rw (said-frame image) (omega (arith, value-below image frameAt frameWidth));
-        someTransaction = rw (said-transactions image) (header image ok .some);
-        fewTransactions = rw (said-transactions image) (header image ok .few);
-        fewTasks = rw (said-in-all image) (few-tasks image ok);
-        each =
-            λ u within.
-            let here : u < countIn image = rw (said-transactions image) at within in
-            rw (said-transaction image u here, said-frame image) (kept-transaction u here);
-      }
+  pub kept : IsAccepted image → Kept (tableIn image)
+  unfolding imageFault
+  kept ok = rules-keep reads fits timed then-joins (none-first _ _ ok)

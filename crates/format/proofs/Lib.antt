@@ -1,9 +1,8 @@
 pub mod Places
+pub mod Faults
 pub mod Accepted
 pub mod Said
 pub mod Kept
 pub mod Reach
-pub mod Cases
 pub mod Spans
 pub mod Round
-pub mod ImageCases

@@ -1,23 +1,26 @@
 -- How far an image reaches: the longest accepted one, and the furthest place of a refusal.
 use mathlib.Core.Path.{_≡_}
 use mathlib.Core.List.{List}
+use mathlib.Core.Bool.{Bool}
 use Prim.Native.Nat.{ℕ, zero, suc, _+_, _*_, _≤_, _<_}
 use native.Mathlib.Nat.{mul-le-mul, le-refl, add-mul, one-mul}
 use native.Mathlib.Decide.{ℕ-discrete}
 use native.Mathlib.Omega.{arith}
 use lib.ListN.{length}
-use Rattle.table.specs.Sum.{sum}
-use Rattle.table.specs.Limits.{tasksInAll, editionWidth, frameWidth, transactionsWidth}
 use Rattle.bits.specs.Bits.{isInside}
-use Rattle.refusals.specs.declared.Refusal.the-variants.{EndsInside, EditionUnknown, FrameZero, TransactionCount}
+use Rattle.table.specs.Sum.{sum}
+use Rattle.table.specs.Limits.{limits}
+use Rattle.table.specs.Fields.{HeaderField, HeadField, TaskField, widthInHeader, widthInHead, widthInTask}
+use Rattle.table.specs.Rules.{rule, headerRules, headRules, taskRules, transactionRules, bodyRules, tableRules}
+use Rattle.refusals.specs.declared.Refusal.{Refusal}
+use Rattle.refusals.specs.declared.Refusal.the-variants.{EndsInside}
 use Rattle.refusals.specs.declared.Answer.the-variants.{Accepted}
-use Rattle.refusals.specs.Answer.{answerPlace, firstOf}
-use Rattle.format.specs.Places.{editionAt, frameAt, countAt, taskWidth, taskAt, past, start, longestImage}
+use Rattle.refusals.specs.Answer.{answerPlace, _then_, firstOf}
+use Rattle.refusals.proofs.Findings.{then-joins, none-first, none-second, none-of, place-checked, place-then, place-first}
+use Rattle.format.specs.Places.{placeInHeader, placeInHead, placeInTask, timeAt, taskWidth, taskAt, past, start, longestImage}
 use Rattle.format.specs.Said.{countIn, modesIn, tasksIn, tasksBefore}
-use Rattle.format.specs.Fault.{endsAt, headerFault, taskFault, headFault, transactionFault, endFault, bodyFault, imageFault}
-use Rattle.format.specs.Fault.{IsAccepted}
-use Rattle.refusals.proofs.Findings.{none-first, none-of, place-checked, place-then, place-first}
-use Rattle.format.proofs.Accepted.{SoundHead, sound-header, sound-head, header, head, end}
+use Rattle.format.specs.Fault.{lookAt, headerFault, taskFault, headFault, transactionFault, endFault, imageFault, IsAccepted}
+use Rattle.format.proofs.Accepted.{SoundHead, sound-header, sound-head, few-before, header, head, end}
 
 -- the widest task has 298 bits, and each transaction adds its head of 33
 tasks-reach : (n m : ℕ) → m ≤ 8 → n * taskWidth m ≤ n * 298
@@ -41,13 +44,8 @@ module _ (image : List ℕ) where
         tasks-reach (tasksIn image p) (modesIn image p) (each u (omega arith) .fewModes),
       )
 
-  few : (u : ℕ) → ((v : ℕ) → v < u → Sound v) → tasksBefore image u ≤ tasksInAll
-  unfolding tasksBefore sum
-  few zero each = omega arith
-  few (suc u) each = each u (omega arith) .inAll
-
   reach-most : (u : ℕ) → u ≤ 32 → ((v : ℕ) → v < u → Sound v) → start image u ≤ 20_162
-  reach-most u h each = omega (arith, reach u each, few u each)
+  reach-most u h each = omega (arith, reach u each, few-before image u each)
 
   -- no accepted image is longer than 2,521 bytes
   pub longest : IsAccepted image → length image ≤ longestImage
@@ -59,53 +57,46 @@ module _ (image : List ℕ) where
   abbrev most : ℕ
   most = 8 * longestImage
 
-  ends-place : (p w : ℕ) → p ≤ most → answerPlace (endsAt image p w) ≤ most
-  ends-place p w h = place-checked most (isInside image p w) EndsInside p h
+  module _ {F : Type 0} (place width : F → ℕ) (f : F) where
+    field-place : place f ≤ most → answerPlace (lookAt image place width .finding f) ≤ most
+    field-place h = place-checked most (isInside image (place f) (width f)) EndsInside (place f) h
+
+    rule-place :
+        (t : Bool) (r : Refusal) → place f ≤ most → answerPlace (rule limits _then_ (lookAt image place width) f t r) ≤ most
+    rule-place t r h = place-then most _ _ (field-place h) (λ e. place-checked most t r (place f) h)
 
   header-place : answerPlace (headerFault image) ≤ most
-  unfolding headerFault
+  unfolding headerRules
   header-place =
       place-then most _ _
-      (place-then most _ _
-      (place-then most _ _
-      (place-then most _ _
-      (place-then most _ _
-      (ends-place editionAt editionWidth (omega arith))
-      (λ e. place-checked most _ EditionUnknown editionAt (omega arith)))
-      (λ e. ends-place frameAt frameWidth (omega arith)))
-      (λ e. place-checked most _ FrameZero frameAt (omega arith)))
-      (λ e. ends-place countAt transactionsWidth (omega arith)))
-      (λ e. place-checked most _ TransactionCount countAt (omega arith))
+      (place-then most _ _ (rule-place placeInHeader widthInHeader HeaderField.edition _ _ (omega arith))
+      (λ e. rule-place placeInHeader widthInHeader HeaderField.frame _ _ (omega arith)))
+      (λ e. rule-place placeInHeader widthInHeader HeaderField.count _ _ (omega arith))
 
   head-place : (before p : ℕ) → p + 28 ≤ most → answerPlace (headFault image before p) ≤ most
-  unfolding headFault
+  unfolding headRules
   head-place before p h =
       place-then most _ _
-      (place-then most _ _
-      (place-then most _ _
-      (place-then most _ _
-      (place-then most _ _ (ends-place _ _ (omega arith)) (λ e. place-checked most _ _ _ (omega arith)))
-      (λ e. ends-place _ _ (omega arith)))
-      (λ e. place-checked most _ _ _ (omega arith)))
-      (λ e. ends-place _ _ (omega arith)))
-      (λ e. place-checked most _ _ _ (omega arith))
+      (place-then most _ _ (rule-place (placeInHead p) widthInHead HeadField.period _ _ (omega arith))
+      (λ e. rule-place (placeInHead p) widthInHead HeadField.modes _ _ (omega arith)))
+      (λ e. rule-place (placeInHead p) widthInHead HeadField.tasks _ _ (omega arith))
 
   task-place : (m q : ℕ) → q + taskWidth m ≤ most → answerPlace (taskFault image m q) ≤ most
-  unfolding taskFault
+  unfolding taskRules firstOf
   task-place m q h =
+      let at : (f : TaskField) → placeInTask q f ≤ most → answerPlace (lookAt image (placeInTask q) widthInTask .finding f) ≤ most =
+      field-place (placeInTask q) widthInTask in
       place-then most _ _
       (place-then most _ _
       (place-then most _ _
       (place-then most _ _
       (place-then most _ _
-      (place-then most _ _
-      (place-then most _ _ (ends-place _ _ (omega arith)) (λ e. ends-place _ _ (omega arith)))
-      (λ e. ends-place _ _ (omega arith)))
-      (λ e. ends-place _ _ (omega arith)))
-      (λ e. place-checked most _ _ _ (omega arith)))
-      (λ e. ends-place _ _ (omega arith)))
-      (λ e. place-first most m _ (λ k below so-far. ends-place _ _ (omega arith))))
-      (λ e. place-checked most _ _ _ (omega arith))
+      (place-then most _ _ (at TaskField.offset (omega arith)) (λ e. at TaskField.jitter (omega arith)))
+      (λ e. at TaskField.blocking (omega arith)))
+      (λ e. rule-place (placeInTask q) widthInTask TaskField.deadline _ _ (omega arith)))
+      (λ e. at TaskField.priority (omega arith)))
+      (λ e. place-first most m _ (λ k below so-far. at (TaskField.time k) (omega arith))))
+      (λ e. place-checked most _ _ (timeAt q 0) (omega arith))
 
   -- task j of transaction u ends where the next transaction starts, or before
   task-reach :
@@ -123,10 +114,10 @@ module _ (image : List ℕ) where
       → u < 32
       → ((v : ℕ) → v < u → Sound v)
       → answerPlace (transactionFault image (tasksBefore image u) (start image u)) ≤ most
-  unfolding transactionFault start
+  unfolding transactionRules firstOf start
   transaction-place u h each =
       let p = start image u in
-      place-then most _ _ (head-place (tasksBefore image u) p (omega (arith, reach u each, few u each)))
+      place-then most _ _ (head-place (tasksBefore image u) p (omega (arith, reach u each, few-before image u each)))
       (λ clear.
       let here : Sound u = sound-head image (tasksBefore image u) p clear in
       let next : start image (suc u) ≤ 20_162 = reach-most (suc u) h (more each here) in
@@ -152,17 +143,18 @@ module _ (image : List ℕ) where
       → (v : ℕ)
       → v < n
       → Sound v
-  unfolding transactionFault
-  sound-before n clear v h = sound-head image (tasksBefore image v) (start image v) (none-first _ _ (none-of n _ clear v h))
+  unfolding transactionRules firstOf
+  sound-before n clear v h = sound-head image (tasksBefore image v) (start image v) (none-first _ _ (none-of then-joins n _ clear v h))
 
   -- every place is at most 20,168, whatever the bytes are
   pub furthest : answerPlace (imageFault image) ≤ most
-  unfolding imageFault bodyFault
+  unfolding imageFault tableRules bodyRules firstOf tasksBefore
   furthest =
-      place-then most _ _ header-place
-      (λ clear.
-      let few-transactions : countIn image ≤ 32 = sound-header image clear .few in
       place-then most _ _
-      (place-first most (countIn image) _
-      (λ u below so-far. transaction-place u (omega arith) (sound-before u so-far)))
-      (λ all. end-place (start image (countIn image)) (reach-most (countIn image) few-transactions (sound-before (countIn image) all))))
+      (place-then most _ _ header-place
+      (λ clear.
+      let few : countIn image ≤ 32 = sound-header image clear .few in
+      place-first most (countIn image) _ (λ u below so-far. transaction-place u (omega arith) (sound-before u so-far))))
+      (λ clear.
+      let few : countIn image ≤ 32 = sound-header image (none-first _ _ clear) .few in
+      end-place (start image (countIn image)) (reach-most (countIn image) few (sound-before (countIn image) (none-second _ _ clear))))

@@ -17,7 +17,7 @@ use Rattle.format.specs.Said.{countIn, modesIn, tasksIn, timeIn, taskIn,
 use Rattle.format.specs.Fault.{IsAccepted}
 use Rattle.table.proofs.Lists.{length-listOf, getD-listOf, joined-same}
 use Rattle.format.proofs.Said.{said-edition, said-frame, said-transactions, said-transaction}
-use Rattle.format.proofs.Accepted.{SoundHead, SoundTask, header, head, task, end}
+use Rattle.format.proofs.Accepted.{SoundHead, SoundTask, time-inside, header, head, task, end}
 use Rattle.format.specs.Image.{fieldBits, taskBits, transactionBits, tableBits, numberOf, bytesOf, imageOf}
 use Rattle.format.proofs.Spans.{bitsFrom, Span, meet, field-to, from, joined-span}
 
@@ -163,7 +163,7 @@ module _ (image : List ℕ) (ok : IsAccepted image) where
       let ends : n * taskWidth m ≡ j * taskWidth m + taskWidth m =
       ap (λ (k : ℕ). k * taskWidth m) (sym one-more) ∙ suc-mul j (taskWidth m) in
       let reached : start image (suc u) ≤ 8 * length image =
-      omega (arith, last .inside (m - 1) (omega (arith, sound .someMode)), ends, sound .someMode) in
+      omega (arith, time-inside image m (taskAt p m j) (m - 1) last (omega (arith, sound .someMode)), ends, sound .someMode) in
       subst (λ (k : ℕ). start image k ≤ 8 * length image) here reached
 
   whole-bytes : length image ≡ bytesTo (start image (countIn image))

@@ -1,13 +1,13 @@
 -- The table that an image says, by the places of its fields.
-use mathlib.Core.Path.{_≡_, refl}
+use mathlib.Core.Path.{_≡_, refl, ap}
 use mathlib.Core.List.{List}
 use Prim.Native.Nat.{ℕ, _≤_, _<_}
 use native.Mathlib.Omega.{arith}
-use Rattle.table.specs.Table.{transactions, transaction, tasks, task}
+use Rattle.table.specs.Table.{Transaction, transactions, transaction, period, modes, tasks, task}
 use Rattle.table.specs.Number.{before, inAll}
 use Rattle.table.proofs.Sum.{sum-ext}
 use Rattle.format.specs.Places.{taskAt, start}
-use Rattle.format.specs.Said.{editionIn, frameIn, countIn, modesIn, tasksIn, taskIn, transactionIn, tableIn, tasksBefore}
+use Rattle.format.specs.Said.{editionIn, frameIn, countIn, periodIn, modesIn, tasksIn, taskIn, transactionIn, tableIn, tasksBefore}
 use Rattle.table.proofs.Lists.{length-listOf, getD-listOf}
 
 module _ (image : List ℕ) where
@@ -26,6 +26,14 @@ module _ (image : List ℕ) where
   pub said-transaction : (u : ℕ) → u < countIn image → transaction (tableIn image) u ≡ transactionIn image (start image u)
   unfolding transaction tableIn
   said-transaction u h = getD-listOf (countIn image) (λ v. transactionIn image (start image v)) u _ h
+
+  pub said-period : (u : ℕ) → u < countIn image → period (tableIn image) u ≡ periodIn image (start image u)
+  unfolding period transactionIn
+  said-period u h = ap (λ (x : Transaction). x .period) (said-transaction u h)
+
+  pub said-modes : (u : ℕ) → u < countIn image → modes (tableIn image) u ≡ modesIn image (start image u)
+  unfolding modes transactionIn
+  said-modes u h = ap (λ (x : Transaction). x .modes) (said-transaction u h)
 
   pub said-tasks : (u : ℕ) → u < countIn image → tasks (tableIn image) u ≡ tasksIn image (start image u)
   unfolding tasks transactionIn

@@ -1,5 +1,5 @@
 -- Spans: a list is the bits of an image from one position up to another. Spans that meet are joined, and a field's bits
--- are a span.
+-- are a span. (The computed cases are brought in so that they are checked first.)
 use mathlib.Core.Path.{_≡_, refl, sym}
 use mathlib.Core.List.{List, [], _∷_, _++_, append-nil, append-assoc}
 use Prim.Native.Nat.{ℕ, zero, suc, _+_, _*_, _/_, _%_, _<_}
@@ -9,6 +9,7 @@ use Rattle.bits.specs.Bits.{bitAt, valueAt}
 use Rattle.bits.proofs.Fields.{bit-below}
 use Rattle.table.specs.Lists.{listOf, joined}
 use Rattle.table.proofs.Lists.{listOf-next}
+use Rattle.format.specs.ImageCases
 use Rattle.format.specs.Image.{fieldBits}
 
 -- the n bits from p

@@ -1,82 +1,70 @@
--- The first fault of an image, front to back: a field is checked as soon as it is complete.
+-- The first fault of an image, front to back: a table's rules, of which the image ends inside a field before the field has a
+-- rule, and then the end of the image.
 use mathlib.Core.Path.{_≡_}
 use mathlib.Core.List.{List}
-use mathlib.Core.Bool.{Bool, _&&_}
-use Prim.Native.Nat.{ℕ, _+_, _-_, _*_, _%_}
+use Prim.Native.Nat.{ℕ, _-_, _*_}
 use lib.ListN.{length}
 use lib.Dec.{leb, eqb}
 use Rattle.bits.specs.Bits.{valueAt, isInside}
-use Rattle.table.specs.Sum.{sum}
-use Rattle.table.specs.Limits.{transactionsMost, modesMost, tasksMost, tasksInAll, editionKnown, editionWidth, frameWidth, transactionsWidth, periodWidth, modesWidth, tasksWidth, offsetWidth, jitterWidth, blockingWidth, deadlineWidth, priorityWidth, timeWidth}
+use Rattle.table.specs.Limits.{limits}
+use Rattle.table.specs.Fields.{Field, widthInHeader, widthInHead, widthInTask, width}
+use Rattle.table.specs.Fields.Field.{header, head, task}
+use Rattle.table.specs.Rules.{Look, headerRules, headRules, taskRules, transactionRules, bodyRules, tableRules}
 use Rattle.refusals.specs.declared.Answer.{Answer}
 use Rattle.refusals.specs.declared.Answer.the-variants.{Accepted}
-use Rattle.refusals.specs.declared.Refusal.the-variants.{EndsInside, EditionUnknown, FrameZero, TransactionCount, PeriodUnfit, ModeCount, TaskCount, DeadlineZero, NeverRuns, PaddingSet, BytesFollow}
-use Rattle.refusals.specs.Answer.{_then_, firstOf, checked}
-use Rattle.format.specs.Places.{editionAt, frameAt, countAt, modesAt, tasksAt, jitterAt, blockingAt, deadlineAt, priorityAt, timesAt, timeAt, taskAt, start, bytesTo}
-use Rattle.format.specs.Said.{editionIn, frameIn, countIn, periodIn, modesIn, tasksIn, deadlineIn, timeIn, tasksBefore}
+use Rattle.refusals.specs.declared.Refusal.the-variants.{EndsInside, PaddingSet, BytesFollow}
+use Rattle.refusals.specs.Answer.{_then_, checked}
+use Rattle.format.specs.Places.{placeInHeader, placeInHead, placeInTask, taskAt, start, bytesTo}
+use Rattle.format.specs.Said.{frameIn, countIn, modesIn}
 
 -- the image ends inside the w bits at p, of which there may be none
-abbrev pub endsAt : List ℕ → ℕ → ℕ → Answer
+abbrev pub endsAt : List ℕ → (p w : ℕ) → Answer
 endsAt image p w = checked (isInside image p w) EndsInside p
 
-abbrev pub isBetween : ℕ → ℕ → ℕ → Bool
-isBetween least most n = leb least n && leb n most
+-- what an image says of fields of those widths at those places
+abbrev pub lookAt : {F : Type 0} → List ℕ → (place width : F → ℕ) → Look F
+lookAt image place width = record { finding = λ f. endsAt image (place f) (width f); place = place; number = λ f. valueAt image (place f) (width f) }
 
-abbrev pub isDivisor : ℕ → ℕ → Bool
-isDivisor frame T = leb 1 T && eqb (frame % T) 0
+-- the place of each field, the image itself telling where a transaction and a task start
+abbrev pub placeIn : List ℕ → Field → ℕ
+placeIn image (header f) = placeInHeader f
+placeIn image (head u f) = placeInHead (start image u) f
+placeIn image (task u j f) = placeInTask (taskAt (start image u) (modesIn image (start image u)) j) f
 
-unfoldable pub headerFault : List ℕ → Answer
-headerFault image =
-    endsAt image editionAt editionWidth
-    then checked (eqb (editionIn image) editionKnown) EditionUnknown editionAt
-    then endsAt image frameAt frameWidth
-    then checked (leb 1 (frameIn image)) FrameZero frameAt
-    then endsAt image countAt transactionsWidth
-    then checked (isBetween 1 transactionsMost (countIn image)) TransactionCount countAt
-
--- the task of m modes that starts at q
-unfoldable pub taskFault : List ℕ → ℕ → ℕ → Answer
-taskFault image m q =
-    endsAt image q offsetWidth
-    then endsAt image (jitterAt q) jitterWidth
-    then endsAt image (blockingAt q) blockingWidth
-    then endsAt image (deadlineAt q) deadlineWidth
-    then checked (leb 1 (deadlineIn image q)) DeadlineZero (deadlineAt q)
-    then endsAt image (priorityAt q) priorityWidth
-    then firstOf m (λ k. endsAt image (timeAt q k) timeWidth)
-    then checked (leb 1 (sum m (timeIn image q))) NeverRuns (timesAt q)
-
--- the counts and the period of the transaction that starts at p, where `before` tasks stand before it
-unfoldable pub headFault : List ℕ → ℕ → ℕ → Answer
-headFault image before p =
-    endsAt image p periodWidth
-    then checked (isDivisor (frameIn image) (periodIn image p)) PeriodUnfit p
-    then endsAt image (modesAt p) modesWidth
-    then checked (isBetween 1 modesMost (modesIn image p)) ModeCount (modesAt p)
-    then endsAt image (tasksAt p) tasksWidth
-    then checked (isBetween 1 tasksMost (tasksIn image p) && leb (before + tasksIn image p) tasksInAll) TaskCount
-    (tasksAt p)
-
-unfoldable pub transactionFault : List ℕ → ℕ → ℕ → Answer
-transactionFault image before p =
-    headFault image before p
-    then firstOf (tasksIn image p) (λ j. taskFault image (modesIn image p) (taskAt p (modesIn image p) j))
+abbrev pub imageLook : List ℕ → Look Field
+imageLook image = lookAt image (placeIn image) width
 
 -- padding that starts at p, and what follows it
-unfoldable pub endFault : List ℕ → ℕ → Answer
+unfoldable pub endFault : List ℕ → (p : ℕ) → Answer
 endFault image p =
     checked (eqb (valueAt image p (8 * bytesTo p - p)) 0) PaddingSet p
     then checked (leb (length image) (bytesTo p)) BytesFollow (8 * bytesTo p)
 
--- the transactions, and the end of the image
-unfoldable pub bodyFault : List ℕ → Answer
-bodyFault image =
-    firstOf (countIn image) (λ u. transactionFault image (tasksBefore image u) (start image u))
-    then endFault image (start image (countIn image))
-
 unfoldable pub imageFault : List ℕ → Answer
-imageFault image = headerFault image then bodyFault image
+imageFault image = tableRules limits _then_ (imageLook image) then endFault image (start image (countIn image))
 
 -- the image is accepted
 abbrev pub IsAccepted : List ℕ → Type 0
 IsAccepted image = imageFault image ≡ Accepted
+
+-- ---- the rules of each part, wherever it starts: what the reader looks at in turn
+
+abbrev pub headerFault : List ℕ → Answer
+headerFault image = headerRules limits _then_ (lookAt image placeInHeader widthInHeader)
+
+-- the task of m modes that starts at q
+abbrev pub taskFault : List ℕ → (m q : ℕ) → Answer
+taskFault image m q = taskRules limits _then_ m (lookAt image (placeInTask q) widthInTask)
+
+-- the counts and the period of the transaction that starts at p, where `before` tasks stand before it
+abbrev pub headFault : List ℕ → (before p : ℕ) → Answer
+headFault image before p = headRules limits _then_ (frameIn image) before (lookAt image (placeInHead p) widthInHead)
+
+abbrev pub transactionFault : List ℕ → (before p : ℕ) → Answer
+transactionFault image before p =
+    transactionRules limits _then_ (frameIn image) before (lookAt image (placeInHead p) widthInHead)
+    (λ j. lookAt image (placeInTask (taskAt p (modesIn image p) j)) widthInTask)
+
+-- the transactions, and the end of the image
+abbrev pub bodyFault : List ℕ → Answer
+bodyFault image = bodyRules limits _then_ (imageLook image) then endFault image (start image (countIn image))

@@ -4,6 +4,10 @@ use mathlib.Core.List.{List}
 use Prim.Native.Nat.{ℕ, zero, suc, _+_, _*_, _/_}
 use Rattle.bits.specs.Bits.{valueAt}
 use Rattle.table.specs.Limits.{editionWidth, frameWidth, transactionsWidth, periodWidth, modesWidth, tasksWidth, offsetWidth, jitterWidth, blockingWidth, deadlineWidth, priorityWidth, timeWidth}
+use Rattle.table.specs.Fields.{HeaderField, HeadField, TaskField}
+use Rattle.table.specs.Fields.HeaderField.{edition, frame, count}
+use Rattle.table.specs.Fields.HeadField.{period, modes, tasks}
+use Rattle.table.specs.Fields.TaskField.{offset, jitter, blocking, deadline, priority, time}
 
 -- the header: edition, major frame, transaction count; then the first transaction
 
@@ -49,6 +53,26 @@ timesAt q = q + (offsetWidth + jitterWidth + blockingWidth + deadlineWidth + pri
 
 abbrev pub timeAt : ℕ → ℕ → ℕ
 timeAt q m = timesAt q + m * timeWidth
+
+-- the same by field: in the header, in a transaction that starts at p, in a task that starts at q
+
+abbrev pub placeInHeader : HeaderField → ℕ
+placeInHeader edition = editionAt
+placeInHeader frame = frameAt
+placeInHeader count = countAt
+
+abbrev pub placeInHead : (p : ℕ) → HeadField → ℕ
+placeInHead p period = p
+placeInHead p modes = modesAt p
+placeInHead p tasks = tasksAt p
+
+abbrev pub placeInTask : (q : ℕ) → TaskField → ℕ
+placeInTask q offset = q
+placeInTask q jitter = jitterAt q
+placeInTask q blocking = blockingAt q
+placeInTask q deadline = deadlineAt q
+placeInTask q priority = priorityAt q
+placeInTask q (time m) = timeAt q m
 
 -- the bits of a task that has a time for each of m modes
 abbrev pub taskWidth : ℕ → ℕ

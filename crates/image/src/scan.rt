@@ -17,7 +17,8 @@ ghost use Rattle.table.specs.Limits.{timeWidth, tasksMost, tasksInAll};
 ghost use Rattle.refusals.specs.Answer.{firstOf};
 ghost use Rattle.bits.specs.Bits.{valueAt};
 ghost use Rattle.format.specs.Places.{taskWidth, past};
-ghost use Rattle.format.specs.Fault.{endsAt, isBetween, isDivisor, headerFault, taskFault, headFault, transactionFault, endFault, bodyFault, imageFault};
+ghost use Rattle.table.specs.Rules.{isBetween, isDivisor};
+ghost use Rattle.format.specs.Fault.{endsAt, headerFault, taskFault, headFault, transactionFault, endFault, bodyFault, imageFault};
 
 // The image ends inside a field.
 fn ends(image: &[u8], at: usize, width: usize) -> Answer

@@ -1,4 +1,4 @@
--- Laws of findings: the first one stays, and where there is none each check held.
+-- Laws of findings: the first one stays, and where there is none, however they are joined, each check held.
 use mathlib.Core.Path.{_≡_, refl, sym, ap, _∙_}
 use mathlib.Core.Bool.{Bool, true, false, _&&_}
 use Prim.Native.Nat.{ℕ, zero, suc, _+_, _≤_, _<_, zero-le}
@@ -8,7 +8,7 @@ use native.Mathlib.Omega.{arith}
 use Rattle.refusals.specs.declared.Refusal.{Refusal}
 use Rattle.refusals.specs.declared.Answer.{Answer}
 use Rattle.refusals.specs.declared.Answer.the-variants.{Accepted, Refused}
-use Rattle.refusals.specs.Answer.{answerPlace, isAccepted, _then_, firstOf, checked}
+use Rattle.refusals.specs.Answer.{answerPlace, isAccepted, _then_, foundOf, firstOf, checked}
 
 pub refused-then : (a b : Answer) → isAccepted a ≡ false → (a then b) ≡ a
 unfolding _then_
@@ -41,7 +41,28 @@ go-on f n a so-far sound = rw (add-one n, firstOf, ← so-far, accepted-is a sou
 pub stop : (f : ℕ → Answer) (n k : ℕ) (a : Answer) → k ≤ n → a ≡ firstOf k f → isAccepted a ≡ false → a ≡ firstOf n f
 stop f n k a h so-far found = so-far ∙ sym (found-stays n k f h (ap isAccepted (sym so-far) ∙ found))
 
--- no finding among two: none in either
+-- the order of findings is what counts, not how they are grouped
+pub then-assoc : (a b c : Answer) → (a then b then c) ≡ (a then (b then c))
+unfolding _then_
+then-assoc Accepted b c = refl
+then-assoc (Refused r at) b c = refl
+
+-- a rule among findings, and three rules
+
+pub one-rule : (a b c d e f : Answer) → (a then b then c then d then e then f) ≡ (a then (b then c) then d then e then f)
+one-rule a b c d e f = ap (λ (x : Answer). x then d then e then f) (then-assoc a b c)
+
+pub three-rules : (a b c d e f : Answer) → (a then b then c then d then e then f) ≡ (a then b then (c then d) then (e then f))
+three-rules a b c d e f = then-assoc (a then b then c then d) e f ∙ ap (λ (x : Answer). x then (e then f)) (then-assoc (a then b) c d)
+
+-- ---- no finding: none of those that are joined
+
+-- a way to join two findings that makes none and loses none
+pub record Joins (join : Answer → Answer → Answer) : Type 0 where
+  pub none : {a b : Answer} → a ≡ Accepted → b ≡ Accepted → join a b ≡ Accepted
+  pub first : (a b : Answer) → join a b ≡ Accepted → a ≡ Accepted
+  pub second : (a b : Answer) → join a b ≡ Accepted → b ≡ Accepted
+
 pub none-first : (a b : Answer) → (a then b) ≡ Accepted → a ≡ Accepted
 unfolding _then_
 none-first Accepted b h = refl
@@ -52,19 +73,37 @@ unfolding _then_
 none-second Accepted b h = h
 none-second (Refused r at) b h = cc
 
-pub none-of : (n : ℕ) (f : ℕ → Answer) → firstOf n f ≡ Accepted → (k : ℕ) → k < n → f k ≡ Accepted
-unfolding firstOf
-none-of zero f h k below = absurd (omega arith)
-none-of (suc n) f h k below = go (ℕ-discrete k n) (none-of n f (none-first _ _ h) k)
-  where
-    go : Dec (k ≡ n) → (k < n → f k ≡ Accepted) → f k ≡ Accepted
-    go (yes e) earlier = ap f e ∙ none-second _ _ h
-    go (no ne) earlier = earlier (omega arith)
+none-then : (a b : Answer) → a ≡ Accepted → b ≡ Accepted → (a then b) ≡ Accepted
+unfolding _then_
+none-then Accepted b e f = f
+none-then (Refused r at) b e f = e
+
+pub then-joins : Joins _then_
+then-joins = record { none = λ {a} {b} e f. none-then a b e f; first = none-first; second = none-second }
+
+module _ {join : Answer → Answer → Answer} (joins : Joins join) where
+  pub none-of : (n : ℕ) (f : ℕ → Answer) → foundOf join n f ≡ Accepted → (k : ℕ) → k < n → f k ≡ Accepted
+  unfolding foundOf
+  none-of zero f h k below = absurd (omega arith)
+  none-of (suc n) f h k below = go (ℕ-discrete k n) (none-of n f (joins .first _ _ h) k)
+    where
+      go : Dec (k ≡ n) → (k < n → f k ≡ Accepted) → f k ≡ Accepted
+      go (yes e) earlier = ap f e ∙ joins .second _ _ h
+      go (no ne) earlier = earlier (omega arith)
+
+  pub none-in-all : (n : ℕ) (f : ℕ → Answer) → ((k : ℕ) → k < n → f k ≡ Accepted) → foundOf join n f ≡ Accepted
+  unfolding foundOf
+  none-in-all zero f each = refl
+  none-in-all (suc n) f each = joins .none (none-in-all n f (λ k h. each k (omega arith))) (each n (omega arith))
 
 pub held : (t : Bool) (r : Refusal) (at : ℕ) → checked t r at ≡ Accepted → t ≡ true
 unfolding checked
 held true r at h = refl
 held false r at h = cc
+
+pub holds : {t : Bool} (r : Refusal) (at : ℕ) → t ≡ true → checked t r at ≡ Accepted
+unfolding checked
+holds r at h = rw h
 
 pub both-first : (s t : Bool) → (s && t) ≡ true → s ≡ true
 both-first true t h = refl
@@ -73,6 +112,9 @@ both-first false t h = h
 pub both-second : (s t : Bool) → (s && t) ≡ true → t ≡ true
 both-second true t h = h
 both-second false t h = cc
+
+pub both-hold : {s t : Bool} → s ≡ true → t ≡ true → (s && t) ≡ true
+both-hold h k = rw (h, k)
 
 -- ---- how far the place of a finding reaches: a later check is looked at only where the earlier ones held
 

@@ -2,7 +2,7 @@
 use mathlib.Core.Bool.{Bool, true, false}
 use Prim.Native.Nat.{ℕ, zero, suc}
 use Rattle.refusals.specs.declared.Refusal.{Refusal}
-use Rattle.refusals.specs.declared.Refusal.the-variants.{EndsInside, EditionUnknown, FrameZero, TransactionCount, PeriodUnfit, ModeCount, TaskCount, DeadlineZero, NeverRuns, PaddingSet, BytesFollow}
+use Rattle.refusals.specs.declared.Refusal.the-variants.{EndsInside, EditionUnknown, FrameZero, TransactionCount, PeriodUnfit, ModeCount, TaskCount, DeadlineZero, NeverRuns, PaddingSet, BytesFollow, NoRoom, NoTask}
 use Rattle.refusals.specs.declared.Answer.{Answer}
 use Rattle.refusals.specs.declared.Answer.the-variants.{Accepted, Refused}
 
@@ -19,6 +19,8 @@ refusalNumber DeadlineZero = 8
 refusalNumber NeverRuns = 9
 refusalNumber PaddingSet = 10
 refusalNumber BytesFollow = 11
+refusalNumber NoRoom = 12
+refusalNumber NoTask = 13
 
 abbrev pub answerNumber : Answer → ℕ
 answerNumber Accepted = 0
@@ -37,10 +39,15 @@ unfoldable pub _then_ : Answer → Answer → Answer
 Accepted then b = b
 Refused refusal at then b = Refused refusal at
 
+-- n findings, joined in order
+unfoldable pub foundOf : (join : Answer → Answer → Answer) → ℕ → (ℕ → Answer) → Answer
+foundOf join zero f = Accepted
+foundOf join (suc n) f = join (foundOf join n f) (f n)
+
 -- the first of n findings
 unfoldable pub firstOf : ℕ → (ℕ → Answer) → Answer
-firstOf zero f = Accepted
-firstOf (suc n) f = firstOf n f then f n
+unfolding foundOf
+firstOf n f = foundOf _then_ n f
 
 -- a field's check: a refusal at its place where the check does not hold
 unfoldable pub checked : Bool → Refusal → ℕ → Answer

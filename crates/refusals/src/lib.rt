@@ -3,7 +3,7 @@
 ghost use mathlib.Core.Path.{_≡_};
 ghost use Rattle.refusals.specs.Answer.{refusalNumber, answerNumber, answerPlace, isAccepted, _then_, checked};
 
-// Why an image is refused, in the order of document 01's numbers.
+// Why an image or a call is refused, in the order of document 01's numbers.
 pub enum Refusal {
     EndsInside,
     EditionUnknown,
@@ -16,6 +16,8 @@ pub enum Refusal {
     NeverRuns,
     PaddingSet,
     BytesFollow,
+    NoRoom,
+    NoTask,
 }
 
 pub enum Answer {
@@ -39,6 +41,8 @@ impl Refusal {
             Refusal::NeverRuns => 9,
             Refusal::PaddingSet => 10,
             Refusal::BytesFollow => 11,
+            Refusal::NoRoom => 12,
+            Refusal::NoTask => 13,
         }
     }
 }

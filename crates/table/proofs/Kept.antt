@@ -1,4 +1,4 @@
--- `Kept` holds of document 01's sample S, and fails of a task with deadline 0.
+-- `Kept` holds of document 01's sample S.
 use mathlib.Core.Path.{refl}
 use mathlib.Core.List.{[], _∷_}
 use Prim.Native.Nat.{ℕ, zero, suc, _≤_, _<_, _^_}
@@ -9,7 +9,7 @@ use Rattle.table.specs.Sum.{sum}
 use Rattle.table.specs.Table.{noTask, transactions, transaction, tasks}
 use Rattle.table.specs.Number.{before, inAll}
 use Rattle.table.specs.Kept.{Kept, KeptTransaction, KeptTask}
-use Rattle.table.specs.Sample.{S, plain, lone}
+use Rattle.table.specs.Sample.{S, plain}
 
 -- a task of one mode keeps its bounds where its numbers do
 plainKept : (O C P D : ℕ) → O < 2 ^ 24 → C < 2 ^ 24 → 0 < C → P < 2 ^ 8 → D < 2 ^ 26 → 1 ≤ D → KeptTask 1 (plain O C P D)
@@ -58,10 +58,3 @@ S-kept =
     each (suc zero) h =
         record { period = lit≤ tt; divides = refl; someMode = lit≤ tt; fewModes = lit≤ tt; someTask = lit≤ tt; fewTasks = lit≤ tt; each = second }
     each (suc (suc u)) h = absurd (omega arith)
-
--- a deadline 0 is not kept
-pub late-not-kept : ¬ (Kept (lone 10 (plain 0 3 5 0)))
-unfolding transactions transaction
-late-not-kept k =
-    let due : 1 ≤ 0 = k .each 0 (lit< tt) .each 0 (lit< tt) .due in
-    omega arith

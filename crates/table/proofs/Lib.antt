@@ -1,4 +1,7 @@
 pub mod Sum
 pub mod Lists
 pub mod Number
+pub mod Ranges
+pub mod Rules
+pub mod Accepted
 pub mod Kept

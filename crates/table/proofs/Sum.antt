@@ -1,11 +1,17 @@
 -- Laws of sums, over any count and any terms.
 use mathlib.Core.Path.{_≡_, refl, ap, sym, _∙_}
 use Prim.Native.Nat.{ℕ, zero, suc, _+_, _*_, _≤_, _<_, zero-le}
-use native.Mathlib.Nat.{zero-mul, add-mul, add-zero, add-suc}
+use native.Mathlib.Nat.{zero-mul, suc-mul, add-mul, add-zero, add-suc, le-trans, mul-le-mul-right}
 use native.Mathlib.Decide.{decLt}
+use native.Mathlib.Numerals.{add-one}
 use native.Mathlib.Omega.{arith}
 use lib.Arith.{le-zero}
 use Rattle.table.specs.Sum.{sum}
+
+-- as a loop adds it up
+pub sum-next : (n : ℕ) (f : ℕ → ℕ) → sum (n + 1) f ≡ sum n f + f n
+unfolding sum
+sum-next n f = rw (add-one n)
 
 pub sum-le : (n : ℕ) {f g : ℕ → ℕ} → ((i : ℕ) → i < n → f i ≤ g i) → sum n f ≤ sum n g
 unfolding sum
@@ -95,4 +101,36 @@ sum-grow n (suc m) f h =
           let e : n ≡ suc m = omega arith in
           omega (arith, ap (λ (x : ℕ). sum x f) e)
       | no l ↦ omega (arith, sum-grow n m f (omega arith))
+    ]
+
+-- n terms, none above K
+pub sum-most : (n : ℕ) {f : ℕ → ℕ} {K : ℕ} → ((i : ℕ) → i < n → f i ≤ K) → sum n f ≤ n * K
+unfolding sum
+sum-most zero h = zero-le
+sum-most (suc n) {f} {K} h =
+    let rest : sum n f ≤ n * K = sum-most n (λ i l. h i (omega arith)) in
+    let last : f n ≤ K = h n (omega arith) in
+    omega (arith, suc-mul n K)
+
+-- and so with term n of N added to those before it
+pub sum-room : {N : ℕ} {f : ℕ → ℕ} {K : ℕ} (n : ℕ) → ((i : ℕ) → i < N → f i ≤ K) → n < N → sum n f + f n ≤ N * K
+unfolding sum
+sum-room {N} {f} {K} n each l =
+    le-trans (sum-most (suc n) {f = f} (λ i k. each i (omega arith))) (mul-le-mul-right K l)
+
+-- a sum that is not 0 has a term that is not 0
+pub record SomeTerm (n : ℕ) (f : ℕ → ℕ) : Type 0 where
+  pub term : ℕ
+  pub within : term < n
+  pub some : 0 < f term
+
+pub some-term : (n : ℕ) (f : ℕ → ℕ) → 1 ≤ sum n f → SomeTerm n f
+unfolding sum
+some-term zero f h = absurd (omega arith)
+some-term (suc n) f h =
+    elim (decLt 0 (f n)) [
+      | yes l ↦ record { term = n; within = omega arith; some = l }
+      | no l ↦
+          let earlier : SomeTerm n f = some-term n f (omega arith) in
+          record { term = earlier .term; within = omega (arith, earlier .within); some = earlier .some }
     ]

@@ -2,6 +2,8 @@
 use mathlib.Core.Path.{_≡_}
 use mathlib.Core.List.{List}
 use Prim.Native.Nat.{ℕ, _≤_, _<_, _^_, _%_}
+use native.Mathlib.Omega.{arith}
+use lib.Dec.{lit<}
 use lib.ListN.{length, getD}
 use Rattle.table.specs.Table.{Task, Transaction, Table, transactions, transaction, noTask}
 use Rattle.table.specs.Limits.{
@@ -19,9 +21,10 @@ use Rattle.table.specs.Limits.{
   timeWidth,
 }
 use Rattle.table.specs.Number.{inAll}
+use Rattle.table.specs.Sample.{plain, lone}
 
 -- a mode in which the times of a task are not 0
-pub record Runs (times : List ℕ) : Type 0 where
+pub record RunsSometime (times : List ℕ) : Type 0 where
   pub mode : ℕ
   pub within : mode < length times
   pub some : 0 < getD times mode 0
@@ -36,7 +39,7 @@ pub record KeptTask (modes : ℕ) (t : Task) : Type 0 where
   pub priority : t .priority < 2 ^ priorityWidth
   pub times : length (t .times) ≡ modes
   pub time : (m : ℕ) → m < modes → getD (t .times) m 0 < 2 ^ timeWidth
-  pub runs : Runs (t .times)
+  pub runs : RunsSometime (t .times)
 
 -- a transaction of a table with that major frame
 pub record KeptTransaction (frame : ℕ) (x : Transaction) : Type 0 where
@@ -56,3 +59,10 @@ pub record Kept (tab : Table) : Type 0 where
   pub fewTransactions : transactions tab ≤ transactionsMost
   pub fewTasks : inAll tab ≤ tasksInAll
   pub each : (u : ℕ) → u < transactions tab → KeptTransaction (tab .frame) (transaction tab u)
+
+-- a deadline 0 is not kept
+pub late-not-kept : ¬ (Kept (lone 10 (plain 0 3 5 0)))
+unfolding transactions transaction
+late-not-kept k =
+    let due : 1 ≤ 0 = k .each 0 (lit< tt) .each 0 (lit< tt) .due in
+    omega arith

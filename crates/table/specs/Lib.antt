@@ -2,8 +2,11 @@ pub mod Sum
 pub mod Lists
 pub mod Table
 pub mod Limits
+pub mod Fields
+pub mod Rules
 pub mod Kept
 pub mod Number
 pub mod Computing
 pub mod Sample
 pub mod Cases
+pub mod RuleCases

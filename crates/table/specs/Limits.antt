@@ -21,6 +21,16 @@ tasksMost = 16
 abbrev pub tasksInAll : ℕ
 tasksInAll = 64
 
+-- the limits that a table's rules take, and document 01's
+pub record Limits : Type 0 where
+  pub transactions : ℕ
+  pub modes : ℕ
+  pub tasks : ℕ
+  pub inAll : ℕ
+
+abbrev pub limits : Limits
+limits = record { transactions = transactionsMost; modes = modesMost; tasks = tasksMost; inAll = tasksInAll }
+
 -- the one edition
 abbrev pub editionKnown : ℕ
 editionKnown = 1

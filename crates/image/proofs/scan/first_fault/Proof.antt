@@ -1,7 +1,7 @@
 -- `scan::first_fault` meets its contract: the transactions are looked at where the header is sound.
 use Rattle.refusals.specs.Answer.{_then_}
 use mathlib.Core.Path.{sym, _∙_}
-use Rattle.format.specs.Fault.{imageFault}
+use Rattle.format.proofs.Faults.{image-parts}
 use Rattle.refusals.proofs.Findings.{accepted-is, refused-then}
 use borrow.Author.Needs.{needs}
 use Rattle.image.proofs.scan.first_fault.Statement.{statement}
@@ -17,12 +17,11 @@ transactions-requires : tie.Need-transactions-requires
 transactions-requires c κs = search needs
 
 returns : tie.Need-returns
-unfolding imageFault _then_
-returns c = rw (← c .before .before .before .header .ensures, accepted-is (c .before .before .before .header .result) (sym (c .before .before .is-accepted .ensures) ∙ c .before .if1 .taken), c .transactions .ensures)
+unfolding _then_
+returns c = rw (image-parts _, ← c .before .before .before .header .ensures, accepted-is (c .before .before .before .header .result) (sym (c .before .before .is-accepted .ensures) ∙ c .before .if1 .taken), c .transactions .ensures)
 
 returns-2 : tie.Need-returns-2
-unfolding imageFault
-returns-2 c = rw (← c .before .before .header .ensures) (sym (refused-then (c .before .before .header .result) _ (sym (c .before .is-accepted .ensures) ∙ c .if1 .left)))
+returns-2 c = rw (image-parts _, ← c .before .before .header .ensures) (sym (refused-then (c .before .before .header .result) _ (sym (c .before .is-accepted .ensures) ∙ c .if1 .left)))
 
 pub first-fault-spec : {M : Type 1} → statement M
 first-fault-spec =

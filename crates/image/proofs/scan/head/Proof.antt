@@ -3,7 +3,8 @@ use Prim.Native.Nat.{_<_}
 use denote.Ref.{now}
 use Rattle.format.proofs.Places.{tasks-small}
 use native.Mathlib.Omega.{arith}
-use Rattle.format.specs.Fault.{headFault}
+use Rattle.table.specs.Rules.{headRules}
+use Rattle.refusals.proofs.Findings.{three-rules}
 use borrow.Author.Needs.{needs}
 use Rattle.image.proofs.scan.head.Statement.{statement}
 use Rattle.image.proofs.scan.head.Tie as tie
@@ -66,9 +67,10 @@ then-requires-5 : tie.Need-then-requires-5
 then-requires-5 c κs = search needs
 
 returns : tie.Need-returns
-unfolding headFault
+unfolding headRules
 returns c =
     rw (c .then5 .ensures, c .before .check3 .ensures, c .before .before .few-tasks .ensures, c .before .before .before .then4 .ensures, c .before .before .before .before .ends3 .ensures, c .before .before .before .before .before .then3 .ensures, c .before .before .before .before .before .before .check2 .ensures, c .before .before .before .before .before .before .before .between .ensures, c .before .before .before .before .before .before .before .before .then2 .ensures, c .before .before .before .before .before .before .before .before .before .ends2 .ensures, c .before .before .before .before .before .before .before .before .before .before .then .ensures, c .before .before .before .before .before .before .before .before .before .before .before .check .ensures, c .before .before .before .before .before .before .before .before .before .before .before .before .divides .ensures, c .before .before .before .before .before .before .before .before .before .before .before .before .before .ends .ensures, c .before .before .before .before .before .before .before .before .before .before .before .before .before .before .head-at .ensures, c .before .before .before .before .before .before .before .before .before .before .before .before .before .before .before .value .ensures)
+    (three-rules _ _ _ _ _ _)
 
 pub head-spec : {M : Type 1} → statement M
 head-spec =

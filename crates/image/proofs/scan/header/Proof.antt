@@ -1,5 +1,6 @@
 -- `scan::header` meets its contract: one chain of checks, rewritten by what each call ensures, the last first.
-use Rattle.format.specs.Fault.{headerFault}
+use Rattle.table.specs.Rules.{headerRules}
+use Rattle.refusals.proofs.Findings.{three-rules}
 use borrow.Author.Needs.{needs}
 use Rattle.image.proofs.scan.header.Statement.{statement}
 use Rattle.image.proofs.scan.header.Tie as tie
@@ -53,9 +54,10 @@ then-requires-5 : tie.Need-then-requires-5
 then-requires-5 c κs = search needs
 
 returns : tie.Need-returns
-unfolding headerFault
+unfolding headerRules
 returns c =
     rw (c .then5 .ensures, c .before .check3 .ensures, c .before .before .between .ensures, c .before .before .before .then4 .ensures, c .before .before .before .before .ends3 .ensures, c .before .before .before .before .before .then3 .ensures, c .before .before .before .before .before .before .check2 .ensures, c .before .before .before .before .before .before .before .then2 .ensures, c .before .before .before .before .before .before .before .before .ends2 .ensures, c .before .before .before .before .before .before .before .before .before .then .ensures, c .before .before .before .before .before .before .before .before .before .before .check .ensures, c .before .before .before .before .before .before .before .before .before .before .before .ends .ensures, c .before .before .before .before .before .before .before .before .before .before .before .before .value3 .ensures, c .before .before .before .before .before .before .before .before .before .before .before .before .before .value2 .ensures, c .before .before .before .before .before .before .before .before .before .before .before .before .before .before .value .ensures)
+    (three-rules _ _ _ _ _ _)
 
 pub header-spec : {M : Type 1} → statement M
 header-spec =

@@ -1,6 +1,9 @@
 -- `scan::task` meets its contract: one chain of checks, rewritten by what each call ensures, the last first.
+use native.Mathlib.Nat.{add-zero}
 use native.Mathlib.Omega.{arith}
-use Rattle.format.specs.Fault.{taskFault}
+use Rattle.table.specs.Rules.{taskRules}
+use Rattle.refusals.specs.Answer.{firstOf}
+use Rattle.refusals.proofs.Findings.{one-rule}
 use borrow.Author.Needs.{needs}
 use Rattle.image.proofs.scan.task.Statement.{statement}
 use Rattle.image.proofs.scan.task.Tie as tie
@@ -72,9 +75,10 @@ then-requires-7 : tie.Need-then-requires-7
 then-requires-7 c κs = search needs
 
 returns : tie.Need-returns
-unfolding taskFault
+unfolding taskRules firstOf
 returns c =
-    rw (c .then7 .ensures, c .before .check2 .ensures, c .before .before .times-sum .ensures, c .before .before .before .then6 .ensures, c .before .before .before .before .times-end .ensures, c .before .before .before .before .before .then5 .ensures, c .before .before .before .before .before .before .ends5 .ensures, c .before .before .before .before .before .before .before .then4 .ensures, c .before .before .before .before .before .before .before .before .check .ensures, c .before .before .before .before .before .before .before .before .before .before .then3 .ensures, c .before .before .before .before .before .before .before .before .before .before .before .ends4 .ensures, c .before .before .before .before .before .before .before .before .before .before .before .before .then2 .ensures, c .before .before .before .before .before .before .before .before .before .before .before .before .before .ends3 .ensures, c .before .before .before .before .before .before .before .before .before .before .before .before .before .before .then .ensures, c .before .before .before .before .before .before .before .before .before .before .before .before .before .before .before .ends2 .ensures, c .before .before .before .before .before .before .before .before .before .before .before .before .before .before .before .before .ends .ensures, c .before .before .before .before .before .before .before .before .before .before .before .before .before .before .before .before .before .body-at .ensures)
+    rw (c .then7 .ensures, c .before .check2 .ensures, c .before .before .times-sum .ensures, c .before .before .before .then6 .ensures, c .before .before .before .before .times-end .ensures, c .before .before .before .before .before .then5 .ensures, c .before .before .before .before .before .before .ends5 .ensures, c .before .before .before .before .before .before .before .then4 .ensures, c .before .before .before .before .before .before .before .before .check .ensures, c .before .before .before .before .before .before .before .before .before .before .then3 .ensures, c .before .before .before .before .before .before .before .before .before .before .before .ends4 .ensures, c .before .before .before .before .before .before .before .before .before .before .before .before .then2 .ensures, c .before .before .before .before .before .before .before .before .before .before .before .before .before .ends3 .ensures, c .before .before .before .before .before .before .before .before .before .before .before .before .before .before .then .ensures, c .before .before .before .before .before .before .before .before .before .before .before .before .before .before .before .ends2 .ensures, c .before .before .before .before .before .before .before .before .before .before .before .before .before .before .before .before .ends .ensures, c .before .before .before .before .before .before .before .before .before .before .before .before .before .before .before .before .before .body-at .ensures, add-zero)
+    (one-rule _ _ _ _ _ _)
 
 pub task-spec : {M : Type 1} → statement M
 task-spec =

@@ -5,7 +5,7 @@ use mathlib.Core.List.{List}
 use Prim.Native.Nat.{ℕ}
 use native.Mathlib.Omega.{arith}
 use denote.Ref.{now}
-use Rattle.format.specs.Fault.{transactionFault}
+use Rattle.format.proofs.Faults.{transaction-parts}
 use Rattle.refusals.proofs.Findings.{accepted-is, refused-then}
 use Rattle.format.proofs.Places.{modes-small, tasks-small}
 use borrow.Author.Needs.{needs}
@@ -34,14 +34,13 @@ tasks-requires : tie.Need-tasks-requires
 tasks-requires c κs = rw (c .head-at .ensures) (omega (arith, modes-small (image c) (place c), tasks-small (image c) (place c)))
 
 returns : tie.Need-returns
-unfolding transactionFault _then_
+unfolding _then_
 returns c =
-    rw (← c .before .before .before .before .head .ensures, accepted-is (c .before .before .before .before .head .result) (sym (c .before .before .before .is-accepted .ensures) ∙ c .before .before .if1 .taken), c .tasks .ensures, c .before .head-at .ensures)
+    rw (transaction-parts _ _ _, ← c .before .before .before .before .head .ensures, accepted-is (c .before .before .before .before .head .result) (sym (c .before .before .before .is-accepted .ensures) ∙ c .before .before .if1 .taken), c .tasks .ensures, c .before .head-at .ensures)
 
 returns-2 : tie.Need-returns-2
-unfolding transactionFault
 returns-2 c =
-    rw (← c .before .before .head .ensures) (sym (refused-then (c .before .before .head .result) _ (sym (c .before .is-accepted .ensures) ∙ c .if1 .left)))
+    rw (transaction-parts _ _ _, ← c .before .before .head .ensures) (sym (refused-then (c .before .before .head .result) _ (sym (c .before .is-accepted .ensures) ∙ c .if1 .left)))
 
 pub transaction-spec : {M : Type 1} → statement M
 transaction-spec =

@@ -9,7 +9,8 @@ use Rattle.refusals.specs.declared.Answer.{Answer}
 use Rattle.refusals.specs.Answer.{isAccepted, _then_, firstOf}
 use Rattle.format.specs.Places.{start}
 use Rattle.format.specs.Said.{countIn, tasksBefore}
-use Rattle.format.specs.Fault.{transactionFault, bodyFault}
+use Rattle.format.specs.Fault.{transactionFault}
+use Rattle.format.proofs.Faults.{body-parts}
 use Rattle.refusals.proofs.Findings.{refused-then, go-on, stop}
 use Rattle.format.proofs.Places.{start-small, before-small, count-small, tasks-small, next-start, next-before}
 use Rattle.image.proofs.scan.transactions.Statement.{statement}
@@ -54,7 +55,6 @@ transaction-requires : tie.Need-transaction-requires Inv-loop μ-loop
 transaction-requires c κs = omega (arith, near (c .before .before .before))
 
 returns : tie.Need-returns Inv-loop μ-loop
-unfolding bodyFault
 returns c =
     let at-loop = c .before .before .before in
     let image = now (at-loop .before .before .before .args .image) in
@@ -64,7 +64,7 @@ returns c =
     (omega arith)
     (at-loop .loop .inv .4)
     refused in
-    all ∙ sym (refused-then (firstOf (countIn image) (faults image)) _ (ap isAccepted (sym all) ∙ refused))
+    rw (body-parts image) (all ∙ sym (refused-then (firstOf (countIn image) (faults image)) _ (ap isAccepted (sym all) ∙ refused)))
 
 head-at-requires : tie.Need-head-at-requires Inv-loop μ-loop
 head-at-requires c κs = omega (arith, near (c .before .before .before .before))
@@ -106,11 +106,10 @@ then-requires : tie.Need-then-requires Inv-loop μ-loop
 then-requires c κs = tt
 
 returns-2 : tie.Need-returns-2 Inv-loop μ-loop
-unfolding bodyFault
 returns-2 c =
     let at-loop = c .before .before .before in
     let past : at-loop .loop .u ≡ countIn (now (at-loop .before .before .before .args .image)) = omega arith in
-    rw (c .then .ensures, c .before .end .ensures, at-loop .loop .inv .4, at-loop .loop .inv .3, past)
+    rw (body-parts (now (at-loop .before .before .before .args .image)), c .then .ensures, c .before .end .ensures, at-loop .loop .inv .4, at-loop .loop .inv .3, past)
 
 pub transactions-spec : {M : Type 1} → statement M
 transactions-spec =

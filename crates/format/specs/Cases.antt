@@ -3,16 +3,13 @@ use mathlib.Core.Path.{_≡_, refl}
 use mathlib.Core.List.{List, [], _∷_, _++_, map}
 use Prim.Native.Nat.{ℕ}
 use lib.ListN.{take, replicate, set}
-use Rattle.bits.specs.Bits.{bitAt, valueAt}
-use Rattle.table.specs.Sum.{sum}
 use Rattle.table.specs.Sample.{plain, lone}
 use Rattle.refusals.specs.declared.Answer.the-variants.{Accepted, Refused}
 use Rattle.refusals.specs.declared.Refusal.the-variants.{EndsInside, EditionUnknown, FrameZero, TransactionCount, PeriodUnfit, ModeCount, TaskCount, DeadlineZero, NeverRuns, PaddingSet, BytesFollow}
-use Rattle.refusals.specs.Answer.{answerNumber, _then_, firstOf, checked}
-use Rattle.table.specs.Lists.{listOf}
-use Rattle.format.specs.Places.{past, start}
-use Rattle.format.specs.Said.{taskIn, transactionIn, tableIn, tasksBefore}
-use Rattle.format.specs.Fault.{headerFault, taskFault, headFault, transactionFault, endFault, bodyFault, imageFault}
+use Rattle.refusals.specs.Answer.{answerNumber}
+use Rattle.format.specs.Said.{tableIn}
+use Rattle.format.specs.Fault.{headFault, imageFault}
+use Rattle.format.specs.Computing.{computing}
 
 -- one task, frame 10, T 10, C 3, P 5, D 10
 abbrev last : List ℕ
@@ -22,11 +19,11 @@ last =
     ++ (0x50 ∷ 0x28 ∷ 0x00 ∷ 0x00 ∷ 0x18 ∷ [])
 
 last-is-accepted : imageFault last ≡ Accepted
-unfolding imageFault headerFault bodyFault transactionFault headFault taskFault endFault firstOf _then_ checked start past tasksBefore sum valueAt bitAt
+unfolding computing
 last-is-accepted = refl
 
 last-says : tableIn last ≡ lone 10 (plain 0 3 5 10)
-unfolding tableIn transactionIn taskIn listOf start past valueAt bitAt
+unfolding computing
 last-says = refl
 
 -- a table in which no two fields are the same number
@@ -41,11 +38,11 @@ distinct =
 distinct-says :
     tableIn distinct
     ≡ record { edition = 1; frame = 12; transactions = record { period = 6; modes = 2; tasks = record { offset = 1; jitter = 2; blocking = 3; deadline = 4; priority = 5; times = 6 ∷ 7 ∷ [] } ∷ record { offset = 8; jitter = 9; blocking = 10; deadline = 11; priority = 12; times = 13 ∷ 0 ∷ [] } ∷ [] } ∷ record { period = 12; modes = 1; tasks = record { offset = 14; jitter = 15; blocking = 16; deadline = 17; priority = 18; times = 19 ∷ [] } ∷ [] } ∷ [] }
-unfolding tableIn transactionIn taskIn listOf start past valueAt bitAt
+unfolding computing
 distinct-says = refl
 
 distinct-is-accepted : imageFault distinct ≡ Accepted
-unfolding imageFault headerFault bodyFault transactionFault headFault taskFault endFault firstOf _then_ checked start past tasksBefore sum valueAt bitAt
+unfolding computing
 distinct-is-accepted = refl
 
 -- each refusal, at its place: the image with a byte changed, cut or added to
@@ -94,18 +91,52 @@ refusals :
     ∷ Refused PaddingSet 197
     ∷ Refused BytesFollow 200
     ∷ []
-unfolding imageFault headerFault bodyFault transactionFault headFault taskFault endFault firstOf _then_ checked start past tasksBefore sum valueAt bitAt
+unfolding computing
 refusals = refl
 
 numbers : map (λ image. answerNumber (imageFault image)) (last ∷ faulty) ≡ 0 ∷ 1 ∷ 1 ∷ 1 ∷ 1 ∷ 2 ∷ 3 ∷ 4 ∷ 4 ∷ 5 ∷ 5 ∷ 6 ∷ 6 ∷ 7 ∷ 7 ∷ 8 ∷ 9 ∷ 10 ∷ 10 ∷ 11 ∷ []
-unfolding imageFault headerFault bodyFault transactionFault headFault taskFault endFault firstOf _then_ checked start past tasksBefore sum valueAt bitAt
+unfolding computing
 numbers = refl
+
+-- a field is checked as soon as it is complete: each image ends in the field behind a faulty one, and the same image with
+-- nothing wrong shows where
+abbrev endsBehind : List (List ℕ)
+endsBehind =
+    take 4 (set last 3 0x00)
+    ∷ take 4 last
+    ∷ take 5 (set last 4 0x00)
+    ∷ take 5 last
+    ∷ take 8 (set last 6 0x01)
+    ∷ take 8 (set last 7 0x80)
+    ∷ take 8 last
+    ∷ take 9 (set last 8 0x00)
+    ∷ take 9 last
+    ∷ take 21 (set last 20 0x00)
+    ∷ take 21 last
+    ∷ []
+
+first-faults :
+    map imageFault endsBehind
+    ≡ Refused FrameZero 4
+    ∷ Refused EndsInside 28
+    ∷ Refused TransactionCount 28
+    ∷ Refused EndsInside 34
+    ∷ Refused PeriodUnfit 34
+    ∷ Refused ModeCount 58
+    ∷ Refused EndsInside 62
+    ∷ Refused TaskCount 62
+    ∷ Refused EndsInside 67
+    ∷ Refused DeadlineZero 139
+    ∷ Refused EndsInside 165
+    ∷ []
+unfolding computing
+first-faults = refl
 
 -- the sum so far with this transaction's one task: 64, and 65
 with-63-before : headFault last 63 34 ≡ Accepted
-unfolding headFault _then_ checked valueAt bitAt
+unfolding computing
 with-63-before = refl
 
 with-64-before : headFault last 64 34 ≡ Refused TaskCount 62
-unfolding headFault _then_ checked valueAt bitAt
+unfolding computing
 with-64-before = refl

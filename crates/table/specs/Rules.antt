@@ -1,0 +1,75 @@
+-- A table's rules, once: they go over its fields in image order and ask of each first whether it is there and then its rule.
+-- Who asks brings a look: the reader of an image, whose fields may be cut off, the writer of one, into which they must fit.
+use mathlib.Core.Bool.{Bool, _&&_}
+use Prim.Native.Nat.{ℕ, _+_, _%_}
+use lib.Dec.{leb, eqb}
+use Rattle.refusals.specs.declared.Answer.{Answer}
+use Rattle.refusals.specs.declared.Refusal.{Refusal}
+use Rattle.refusals.specs.declared.Refusal.the-variants.{EditionUnknown, FrameZero, TransactionCount, PeriodUnfit, ModeCount, TaskCount, DeadlineZero, NeverRuns}
+use Rattle.refusals.specs.Answer.{foundOf, checked}
+use Rattle.table.specs.Sum.{sum}
+use Rattle.table.specs.Limits.{Limits, editionKnown}
+use Rattle.table.specs.Fields.{HeaderField, HeadField, TaskField, Field}
+use Rattle.table.specs.Fields.HeaderField.{edition, frame, count}
+use Rattle.table.specs.Fields.HeadField.{period, modes, tasks}
+use Rattle.table.specs.Fields.TaskField.{offset, jitter, blocking, deadline, priority, time}
+use Rattle.table.specs.Fields.Field.{header, head, task}
+
+-- of each field its own finding, where it is not there; its place; and its number
+pub record Look (F : Type 0) : Type 0 where
+  pub finding : F → Answer
+  pub place : F → ℕ
+  pub number : F → ℕ
+
+-- the part of a look whose fields stand there
+abbrev pub part : {F G : Type 0} → (F → G) → Look G → Look F
+part at look = record { finding = λ f. look .finding (at f); place = λ f. look .place (at f); number = λ f. look .number (at f) }
+
+abbrev pub isBetween : (least most n : ℕ) → Bool
+isBetween least most n = leb least n && leb n most
+
+abbrev pub isDivisor : (major T : ℕ) → Bool
+isDivisor major T = leb 1 T && eqb (major % T) 0
+
+module _ (limits : Limits) (_then_ : Answer → Answer → Answer) where
+  infixl 20 _then_
+  -- a field's rule: its own finding, then its check, which refuses at its place
+  abbrev pub rule : {F : Type 0} → Look F → F → (holds : Bool) → Refusal → Answer
+  rule look f holds refusal = look .finding f then checked holds refusal (look .place f)
+
+  unfoldable pub headerRules : Look HeaderField → Answer
+  headerRules look =
+      rule look edition (eqb (look .number edition) editionKnown) EditionUnknown
+      then rule look frame (leb 1 (look .number frame)) FrameZero
+      then rule look count (isBetween 1 (limits .transactions) (look .number count)) TransactionCount
+
+  -- under that major frame, where `before` tasks stand before the transaction
+  unfoldable pub headRules : (major before : ℕ) → Look HeadField → Answer
+  headRules major before look =
+      rule look period (isDivisor major (look .number period)) PeriodUnfit
+      then rule look modes (isBetween 1 (limits .modes) (look .number modes)) ModeCount
+      then rule look tasks (isBetween 1 (limits .tasks) (look .number tasks) && leb (before + look .number tasks) (limits .inAll)) TaskCount
+
+  -- of so many modes; that it never runs is seen behind its last time, and refused at its first
+  unfoldable pub taskRules : (many : ℕ) → Look TaskField → Answer
+  taskRules many look =
+      look .finding offset
+      then look .finding jitter
+      then look .finding blocking
+      then rule look deadline (leb 1 (look .number deadline)) DeadlineZero
+      then look .finding priority
+      then foundOf _then_ many (λ m. look .finding (time m))
+      then checked (leb 1 (sum many (λ m. look .number (time m)))) NeverRuns (look .place (time 0))
+
+  unfoldable pub transactionRules : (major before : ℕ) → Look HeadField → (ℕ → Look TaskField) → Answer
+  transactionRules major before look each =
+      headRules major before look
+      then foundOf _then_ (look .number tasks) (λ j. taskRules (look .number modes) (each j))
+
+  unfoldable pub bodyRules : Look Field → Answer
+  bodyRules look =
+      foundOf _then_ (look .number (header count))
+      (λ u. transactionRules (look .number (header frame)) (sum u (λ v. look .number (head v tasks))) (part (head u) look) (λ j. part (task u j) look))
+
+  unfoldable pub tableRules : Look Field → Answer
+  tableRules look = headerRules (part header look) then bodyRules look
