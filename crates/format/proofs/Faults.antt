@@ -16,7 +16,7 @@ module _ (image : List ℕ) where
   unfolding imageFault tableRules
   image-parts = then-assoc _ _ _
 
-  pub body-parts : bodyRules limits _then_ (imageLook image) ≡ firstOf (countIn image) (λ u. transactionFault image (tasksBefore image u) (start image u))
+  pub body-parts : bodyRules _then_ limits (imageLook image) ≡ firstOf (countIn image) (λ u. transactionFault image (tasksBefore image u) (start image u))
   unfolding bodyRules tasksBefore firstOf
   body-parts = refl
 

@@ -62,7 +62,7 @@ module _ (image : List ℕ) where
     field-place h = place-checked most (isInside image (place f) (width f)) EndsInside (place f) h
 
     rule-place :
-        (t : Bool) (r : Refusal) → place f ≤ most → answerPlace (rule limits _then_ (lookAt image place width) f t r) ≤ most
+        (t : Bool) (r : Refusal) → place f ≤ most → answerPlace (rule _then_ (lookAt image place width) f t r) ≤ most
     rule-place t r h = place-then most _ _ (field-place h) (λ e. place-checked most t r (place f) h)
 
   header-place : answerPlace (headerFault image) ≤ most

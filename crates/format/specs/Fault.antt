@@ -41,7 +41,7 @@ endFault image p =
     then checked (leb (length image) (bytesTo p)) BytesFollow (8 * bytesTo p)
 
 unfoldable pub imageFault : List ℕ → Answer
-imageFault image = tableRules limits _then_ (imageLook image) then endFault image (start image (countIn image))
+imageFault image = tableRules _then_ limits (imageLook image) then endFault image (start image (countIn image))
 
 -- the image is accepted
 abbrev pub IsAccepted : List ℕ → Type 0
@@ -50,21 +50,21 @@ IsAccepted image = imageFault image ≡ Accepted
 -- ---- the rules of each part, wherever it starts: what the reader looks at in turn
 
 abbrev pub headerFault : List ℕ → Answer
-headerFault image = headerRules limits _then_ (lookAt image placeInHeader widthInHeader)
+headerFault image = headerRules _then_ limits (lookAt image placeInHeader widthInHeader)
 
 -- the task of m modes that starts at q
 abbrev pub taskFault : List ℕ → (m q : ℕ) → Answer
-taskFault image m q = taskRules limits _then_ m (lookAt image (placeInTask q) widthInTask)
+taskFault image m q = taskRules _then_ limits m (lookAt image (placeInTask q) widthInTask)
 
 -- the counts and the period of the transaction that starts at p, where `before` tasks stand before it
 abbrev pub headFault : List ℕ → (before p : ℕ) → Answer
-headFault image before p = headRules limits _then_ (frameIn image) before (lookAt image (placeInHead p) widthInHead)
+headFault image before p = headRules _then_ limits (frameIn image) before (lookAt image (placeInHead p) widthInHead)
 
 abbrev pub transactionFault : List ℕ → (before p : ℕ) → Answer
 transactionFault image before p =
-    transactionRules limits _then_ (frameIn image) before (lookAt image (placeInHead p) widthInHead)
+    transactionRules _then_ limits (frameIn image) before (lookAt image (placeInHead p) widthInHead)
     (λ j. lookAt image (placeInTask (taskAt p (modesIn image p) j)) widthInTask)
 
 -- the transactions, and the end of the image
 abbrev pub bodyFault : List ℕ → Answer
-bodyFault image = bodyRules limits _then_ (imageLook image) then endFault image (start image (countIn image))
+bodyFault image = bodyRules _then_ limits (imageLook image) then endFault image (start image (countIn image))

@@ -107,7 +107,7 @@ module _ {look : Look Field} {tab : Table} (reads : Reads look tab) where
         rw some (before-read (le-refl (transactions tab))) in
         omega (arith, whole, sum-next last (λ v. look .number (Field.head v HeadField.tasks)), s .transaction last (omega (arith, count-read)) .head .inAll)
 
-    pub rules-keep : {join : Answer → Answer → Answer} → Joins join → tableRules limits join look ≡ Accepted → Kept tab
+    pub rules-keep : {join : Answer → Answer → Answer} → Joins join → tableRules join limits look ≡ Accepted → Kept tab
     unfolding numberIn
     rules-keep joins h =
         let s = sound-table limits joins look h in
@@ -158,7 +158,7 @@ module _ {look : Look Field} {tab : Table} (reads : Reads look tab) where
           task = λ j below. sound-task (record { owner = h; place = rw (tasks-read h) at below });
         }
 
-    pub kept-rules : {join : Answer → Answer → Answer} → Joins join → tableRules limits join look ≡ Accepted
+    pub kept-rules : {join : Answer → Answer → Answer} → Joins join → tableRules join limits look ≡ Accepted
     kept-rules joins =
         clear-table limits joins look
         (record {

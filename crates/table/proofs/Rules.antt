@@ -54,16 +54,16 @@ pub record SoundTable (limits : Limits) (look : Look Field) : Type 0 where
 
 module _ (limits : Limits) {join : Answer → Answer → Answer} (joins : Joins join) where
   module _ {F : Type 0} (look : Look F) (f : F) (t : Bool) (r : Refusal) where
-    rule-there : rule limits join look f t r ≡ Accepted → look .finding f ≡ Accepted
+    rule-there : rule join look f t r ≡ Accepted → look .finding f ≡ Accepted
     rule-there h = joins .first _ _ h
 
-    rule-holds : rule limits join look f t r ≡ Accepted → t ≡ true
+    rule-holds : rule join look f t r ≡ Accepted → t ≡ true
     rule-holds h = held _ _ _ (joins .second _ _ h)
 
-    rule-kept : look .finding f ≡ Accepted → t ≡ true → rule limits join look f t r ≡ Accepted
+    rule-kept : look .finding f ≡ Accepted → t ≡ true → rule join look f t r ≡ Accepted
     rule-kept there h = joins .none there (holds r _ h)
 
-  pub sound-header : (look : Look HeaderField) → headerRules limits join look ≡ Accepted → SoundHeader limits look
+  pub sound-header : (look : Look HeaderField) → headerRules join limits look ≡ Accepted → SoundHeader limits look
   unfolding headerRules
   sound-header look h =
       let h₁ = joins .first _ _ h in
@@ -85,7 +85,7 @@ module _ (limits : Limits) {join : Answer → Answer → Answer} (joins : Joins 
         few = leb-true _ _ (both-second (leb 1 (look .number HeaderField.count)) _ count);
       }
 
-  pub clear-header : (look : Look HeaderField) → SoundHeader limits look → headerRules limits join look ≡ Accepted
+  pub clear-header : (look : Look HeaderField) → SoundHeader limits look → headerRules join limits look ≡ Accepted
   unfolding headerRules
   clear-header look s =
       joins .none
@@ -95,7 +95,7 @@ module _ (limits : Limits) {join : Answer → Answer → Answer} (joins : Joins 
       (rule-kept look HeaderField.count _ _ (s .there HeaderField.count) (both-hold (le-leb _ _ (s .some)) (le-leb _ _ (s .few))))
 
   module _ (major before : ℕ) (look : Look HeadField) where
-    pub sound-head : headRules limits join major before look ≡ Accepted → SoundHead limits major before look
+    pub sound-head : headRules join limits major before look ≡ Accepted → SoundHead limits major before look
     unfolding headRules
     sound-head h =
         let h₁ = joins .first _ _ h in
@@ -123,7 +123,7 @@ module _ (limits : Limits) {join : Answer → Answer → Answer} (joins : Joins 
           inAll = leb-true _ _ (both-second (isBetween 1 (limits .tasks) (look .number HeadField.tasks)) _ tasks);
         }
 
-    pub clear-head : SoundHead limits major before look → headRules limits join major before look ≡ Accepted
+    pub clear-head : SoundHead limits major before look → headRules join limits major before look ≡ Accepted
     unfolding headRules
     clear-head s =
         joins .none
@@ -134,7 +134,7 @@ module _ (limits : Limits) {join : Answer → Answer → Answer} (joins : Joins 
         (both-hold (both-hold (le-leb _ _ (s .someTask)) (le-leb _ _ (s .fewTasks))) (le-leb _ _ (s .inAll))))
 
   module _ (many : ℕ) (look : Look TaskField) where
-    pub sound-task : taskRules limits join many look ≡ Accepted → SoundTask many look
+    pub sound-task : taskRules join limits many look ≡ Accepted → SoundTask many look
     unfolding taskRules
     sound-task h =
         let h₁ = joins .first _ _ h in
@@ -158,7 +158,7 @@ module _ (limits : Limits) {join : Answer → Answer → Answer} (joins : Joins 
           runs = leb-true _ _ (held _ _ _ (joins .second _ _ h));
         }
 
-    pub clear-task : SoundTask many look → taskRules limits join many look ≡ Accepted
+    pub clear-task : SoundTask many look → taskRules join limits many look ≡ Accepted
     unfolding taskRules
     clear-task s =
         joins .none
@@ -175,7 +175,7 @@ module _ (limits : Limits) {join : Answer → Answer → Answer} (joins : Joins 
 
   module _ (major before : ℕ) (look : Look HeadField) (each : ℕ → Look TaskField) where
     pub sound-transaction :
-        transactionRules limits join major before look each ≡ Accepted → SoundTransaction limits major before look each
+        transactionRules join limits major before look each ≡ Accepted → SoundTransaction limits major before look each
     unfolding transactionRules
     sound-transaction h =
         record {
@@ -184,13 +184,13 @@ module _ (limits : Limits) {join : Answer → Answer → Answer} (joins : Joins 
         }
 
     pub clear-transaction :
-        SoundTransaction limits major before look each → transactionRules limits join major before look each ≡ Accepted
+        SoundTransaction limits major before look each → transactionRules join limits major before look each ≡ Accepted
     unfolding transactionRules
     clear-transaction s =
         joins .none (clear-head major before look (s .head))
         (none-in-all joins (look .number HeadField.tasks) _ (λ j below. clear-task (look .number HeadField.modes) (each j) (s .task j below)))
 
-  pub sound-table : (look : Look Field) → tableRules limits join look ≡ Accepted → SoundTable limits look
+  pub sound-table : (look : Look Field) → tableRules join limits look ≡ Accepted → SoundTable limits look
   unfolding tableRules bodyRules
   sound-table look h =
       record {
@@ -201,7 +201,7 @@ module _ (limits : Limits) {join : Answer → Answer → Answer} (joins : Joins 
             (none-of joins (look .number (Field.header HeaderField.count)) _ (joins .second _ _ h) u below);
       }
 
-  pub clear-table : (look : Look Field) → SoundTable limits look → tableRules limits join look ≡ Accepted
+  pub clear-table : (look : Look Field) → SoundTable limits look → tableRules join limits look ≡ Accepted
   unfolding tableRules bodyRules
   clear-table look s =
       joins .none (clear-header (part Field.header look) (s .header))

@@ -44,7 +44,7 @@ place (Field.task u j f) = 100 * suc u + 10 * suc j + inTask f
 -- what is found where only the fields before that place are there
 abbrev foundUnder : Limits → Table → (cut : ℕ) → Answer
 foundUnder most tab cut =
-    tableRules most _then_ (record { finding = λ f. checked (ltb (place f) cut) EndsInside (place f); place = place; number = numberIn tab })
+    tableRules _then_ most (record { finding = λ f. checked (ltb (place f) cut) EndsInside (place f); place = place; number = numberIn tab })
 
 abbrev found : Table → (cut : ℕ) → Answer
 found = foundUnder limits

@@ -1,5 +1,6 @@
 -- A table's rules, once: they go over its fields in image order and ask of each first whether it is there and then its rule.
--- Who asks brings a look: the reader of an image, whose fields may be cut off, the writer of one, into which they must fit.
+-- Who asks brings a look at the fields, the way findings are joined and the limits; the reader of an image brings what its bits
+-- say, the first finding and document 01's limits.
 use mathlib.Core.Bool.{Bool, _&&_}
 use Prim.Native.Nat.{ℕ, _+_, _%_}
 use lib.Dec.{leb, eqb}
@@ -31,45 +32,46 @@ isBetween least most n = leb least n && leb n most
 abbrev pub isDivisor : (major T : ℕ) → Bool
 isDivisor major T = leb 1 T && eqb (major % T) 0
 
-module _ (limits : Limits) (_then_ : Answer → Answer → Answer) where
+module _ (_then_ : Answer → Answer → Answer) where
   infixl 20 _then_
   -- a field's rule: its own finding, then its check, which refuses at its place
   abbrev pub rule : {F : Type 0} → Look F → F → (holds : Bool) → Refusal → Answer
   rule look f holds refusal = look .finding f then checked holds refusal (look .place f)
 
-  unfoldable pub headerRules : Look HeaderField → Answer
-  headerRules look =
-      rule look edition (eqb (look .number edition) editionKnown) EditionUnknown
-      then rule look frame (leb 1 (look .number frame)) FrameZero
-      then rule look count (isBetween 1 (limits .transactions) (look .number count)) TransactionCount
+  module _ (limits : Limits) where
+    unfoldable pub headerRules : Look HeaderField → Answer
+    headerRules look =
+        rule look edition (eqb (look .number edition) editionKnown) EditionUnknown
+        then rule look frame (leb 1 (look .number frame)) FrameZero
+        then rule look count (isBetween 1 (limits .transactions) (look .number count)) TransactionCount
 
-  -- under that major frame, where `before` tasks stand before the transaction
-  unfoldable pub headRules : (major before : ℕ) → Look HeadField → Answer
-  headRules major before look =
-      rule look period (isDivisor major (look .number period)) PeriodUnfit
-      then rule look modes (isBetween 1 (limits .modes) (look .number modes)) ModeCount
-      then rule look tasks (isBetween 1 (limits .tasks) (look .number tasks) && leb (before + look .number tasks) (limits .inAll)) TaskCount
+    -- under that major frame, where `before` tasks stand before the transaction
+    unfoldable pub headRules : (major before : ℕ) → Look HeadField → Answer
+    headRules major before look =
+        rule look period (isDivisor major (look .number period)) PeriodUnfit
+        then rule look modes (isBetween 1 (limits .modes) (look .number modes)) ModeCount
+        then rule look tasks (isBetween 1 (limits .tasks) (look .number tasks) && leb (before + look .number tasks) (limits .inAll)) TaskCount
 
-  -- of so many modes; that it never runs is seen behind its last time, and refused at its first
-  unfoldable pub taskRules : (many : ℕ) → Look TaskField → Answer
-  taskRules many look =
-      look .finding offset
-      then look .finding jitter
-      then look .finding blocking
-      then rule look deadline (leb 1 (look .number deadline)) DeadlineZero
-      then look .finding priority
-      then foundOf _then_ many (λ m. look .finding (time m))
-      then checked (leb 1 (sum many (λ m. look .number (time m)))) NeverRuns (look .place (time 0))
+    -- of so many modes; that it never runs is seen behind its last time, and refused at its first
+    unfoldable pub taskRules : (many : ℕ) → Look TaskField → Answer
+    taskRules many look =
+        look .finding offset
+        then look .finding jitter
+        then look .finding blocking
+        then rule look deadline (leb 1 (look .number deadline)) DeadlineZero
+        then look .finding priority
+        then foundOf _then_ many (λ m. look .finding (time m))
+        then checked (leb 1 (sum many (λ m. look .number (time m)))) NeverRuns (look .place (time 0))
 
-  unfoldable pub transactionRules : (major before : ℕ) → Look HeadField → (ℕ → Look TaskField) → Answer
-  transactionRules major before look each =
-      headRules major before look
-      then foundOf _then_ (look .number tasks) (λ j. taskRules (look .number modes) (each j))
+    unfoldable pub transactionRules : (major before : ℕ) → Look HeadField → (ℕ → Look TaskField) → Answer
+    transactionRules major before look each =
+        headRules major before look
+        then foundOf _then_ (look .number tasks) (λ j. taskRules (look .number modes) (each j))
 
-  unfoldable pub bodyRules : Look Field → Answer
-  bodyRules look =
-      foundOf _then_ (look .number (header count))
-      (λ u. transactionRules (look .number (header frame)) (sum u (λ v. look .number (head v tasks))) (part (head u) look) (λ j. part (task u j) look))
+    unfoldable pub bodyRules : Look Field → Answer
+    bodyRules look =
+        foundOf _then_ (look .number (header count))
+        (λ u. transactionRules (look .number (header frame)) (sum u (λ v. look .number (head v tasks))) (part (head u) look) (λ j. part (task u j) look))
 
-  unfoldable pub tableRules : Look Field → Answer
-  tableRules look = headerRules (part header look) then bodyRules look
+    unfoldable pub tableRules : Look Field → Answer
+    tableRules look = headerRules (part header look) then bodyRules look

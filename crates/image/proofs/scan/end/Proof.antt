@@ -23,16 +23,16 @@ sub-value : tie.Need-sub-value
 sub-value c = search needs
 
 value-requires : tie.Need-value-requires
-value-requires c κs = search needs
+value-requires c κs = tt
 
 check-requires : tie.Need-check-requires
-check-requires c κs = search needs
+check-requires c κs = tt
 
 check-requires-2 : tie.Need-check-requires-2
-check-requires-2 c κs = search needs
+check-requires-2 c κs = tt
 
 then-requires : tie.Need-then-requires
-then-requires c κs = search needs
+then-requires c κs = tt
 
 returns : tie.Need-returns
 unfolding endFault

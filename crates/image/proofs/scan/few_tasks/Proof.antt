@@ -4,7 +4,7 @@ use Rattle.image.proofs.scan.few_tasks.Statement.{statement}
 use Rattle.image.proofs.scan.few_tasks.Tie as tie
 
 between-requires : tie.Need-between-requires
-between-requires c κs = search needs
+between-requires c κs = tt
 
 add-result : tie.Need-add-result
 add-result c = search needs

@@ -8,13 +8,13 @@ use Rattle.image.proofs.scan.first_fault.Statement.{statement}
 use Rattle.image.proofs.scan.first_fault.Tie as tie
 
 header-requires : tie.Need-header-requires
-header-requires c κs = search needs
+header-requires c κs = tt
 
 is-accepted-requires : tie.Need-is-accepted-requires
-is-accepted-requires c κs = search needs
+is-accepted-requires c κs = tt
 
 transactions-requires : tie.Need-transactions-requires
-transactions-requires c κs = search needs
+transactions-requires c κs = tt
 
 returns : tie.Need-returns
 unfolding _then_

@@ -19,52 +19,52 @@ add-tasks : tie.Need-add-tasks
 add-tasks c = search needs
 
 value-requires : tie.Need-value-requires
-value-requires c κs = search needs
+value-requires c κs = tt
 
 head-at-requires : tie.Need-head-at-requires
 head-at-requires c κs = search needs
 
 ends-requires : tie.Need-ends-requires
-ends-requires c κs = search needs
+ends-requires c κs = tt
 
 divides-requires : tie.Need-divides-requires
-divides-requires c κs = search needs
+divides-requires c κs = tt
 
 check-requires : tie.Need-check-requires
-check-requires c κs = search needs
+check-requires c κs = tt
 
 then-requires : tie.Need-then-requires
-then-requires c κs = search needs
+then-requires c κs = tt
 
 ends-requires-2 : tie.Need-ends-requires-2
-ends-requires-2 c κs = search needs
+ends-requires-2 c κs = tt
 
 then-requires-2 : tie.Need-then-requires-2
-then-requires-2 c κs = search needs
+then-requires-2 c κs = tt
 
 between-requires : tie.Need-between-requires
-between-requires c κs = search needs
+between-requires c κs = tt
 
 check-requires-2 : tie.Need-check-requires-2
-check-requires-2 c κs = search needs
+check-requires-2 c κs = tt
 
 then-requires-3 : tie.Need-then-requires-3
-then-requires-3 c κs = search needs
+then-requires-3 c κs = tt
 
 ends-requires-3 : tie.Need-ends-requires-3
-ends-requires-3 c κs = search needs
+ends-requires-3 c κs = tt
 
 then-requires-4 : tie.Need-then-requires-4
-then-requires-4 c κs = search needs
+then-requires-4 c κs = tt
 
 few-tasks-requires : tie.Need-few-tasks-requires
 few-tasks-requires c κs = omega (arith, c .before .before .before .before .before .before .before .before .before .before .before .before .before .before .pre, few (c .before .before .before .before .before .before .before .before .before .before .before))
 
 check-requires-3 : tie.Need-check-requires-3
-check-requires-3 c κs = search needs
+check-requires-3 c κs = tt
 
 then-requires-5 : tie.Need-then-requires-5
-then-requires-5 c κs = search needs
+then-requires-5 c κs = tt
 
 returns : tie.Need-returns
 unfolding headRules

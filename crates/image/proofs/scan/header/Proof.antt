@@ -6,52 +6,52 @@ use Rattle.image.proofs.scan.header.Statement.{statement}
 use Rattle.image.proofs.scan.header.Tie as tie
 
 value-requires : tie.Need-value-requires
-value-requires c κs = search needs
+value-requires c κs = tt
 
 value-requires-2 : tie.Need-value-requires-2
-value-requires-2 c κs = search needs
+value-requires-2 c κs = tt
 
 value-requires-3 : tie.Need-value-requires-3
-value-requires-3 c κs = search needs
+value-requires-3 c κs = tt
 
 cast-count : tie.Need-cast-count
 cast-count c = search needs
 
 ends-requires : tie.Need-ends-requires
-ends-requires c κs = search needs
+ends-requires c κs = tt
 
 check-requires : tie.Need-check-requires
-check-requires c κs = search needs
+check-requires c κs = tt
 
 then-requires : tie.Need-then-requires
-then-requires c κs = search needs
+then-requires c κs = tt
 
 ends-requires-2 : tie.Need-ends-requires-2
-ends-requires-2 c κs = search needs
+ends-requires-2 c κs = tt
 
 then-requires-2 : tie.Need-then-requires-2
-then-requires-2 c κs = search needs
+then-requires-2 c κs = tt
 
 check-requires-2 : tie.Need-check-requires-2
-check-requires-2 c κs = search needs
+check-requires-2 c κs = tt
 
 then-requires-3 : tie.Need-then-requires-3
-then-requires-3 c κs = search needs
+then-requires-3 c κs = tt
 
 ends-requires-3 : tie.Need-ends-requires-3
-ends-requires-3 c κs = search needs
+ends-requires-3 c κs = tt
 
 then-requires-4 : tie.Need-then-requires-4
-then-requires-4 c κs = search needs
+then-requires-4 c κs = tt
 
 between-requires : tie.Need-between-requires
-between-requires c κs = search needs
+between-requires c κs = tt
 
 check-requires-3 : tie.Need-check-requires-3
-check-requires-3 c κs = search needs
+check-requires-3 c κs = tt
 
 then-requires-5 : tie.Need-then-requires-5
-then-requires-5 c κs = search needs
+then-requires-5 c κs = tt
 
 returns : tie.Need-returns
 unfolding headerRules

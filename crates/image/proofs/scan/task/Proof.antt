@@ -27,52 +27,52 @@ body-at-requires : tie.Need-body-at-requires
 body-at-requires c κs = search needs
 
 ends-requires : tie.Need-ends-requires
-ends-requires c κs = search needs
+ends-requires c κs = tt
 
 ends-requires-2 : tie.Need-ends-requires-2
-ends-requires-2 c κs = search needs
+ends-requires-2 c κs = tt
 
 then-requires : tie.Need-then-requires
-then-requires c κs = search needs
+then-requires c κs = tt
 
 ends-requires-3 : tie.Need-ends-requires-3
-ends-requires-3 c κs = search needs
+ends-requires-3 c κs = tt
 
 then-requires-2 : tie.Need-then-requires-2
-then-requires-2 c κs = search needs
+then-requires-2 c κs = tt
 
 ends-requires-4 : tie.Need-ends-requires-4
-ends-requires-4 c κs = search needs
+ends-requires-4 c κs = tt
 
 then-requires-3 : tie.Need-then-requires-3
-then-requires-3 c κs = search needs
+then-requires-3 c κs = tt
 
 check-requires : tie.Need-check-requires
-check-requires c κs = search needs
+check-requires c κs = tt
 
 then-requires-4 : tie.Need-then-requires-4
-then-requires-4 c κs = search needs
+then-requires-4 c κs = tt
 
 ends-requires-5 : tie.Need-ends-requires-5
-ends-requires-5 c κs = search needs
+ends-requires-5 c κs = tt
 
 then-requires-5 : tie.Need-then-requires-5
-then-requires-5 c κs = search needs
+then-requires-5 c κs = tt
 
 times-end-requires : tie.Need-times-end-requires
 times-end-requires c κs = omega (arith, c .before .before .before .before .before .before .before .before .before .before .before .before .before .before .pre)
 
 then-requires-6 : tie.Need-then-requires-6
-then-requires-6 c κs = search needs
+then-requires-6 c κs = tt
 
 times-sum-requires : tie.Need-times-sum-requires
 times-sum-requires c κs = omega (arith, c .before .before .before .before .before .before .before .before .before .before .before .before .before .before .before .before .pre)
 
 check-requires-2 : tie.Need-check-requires-2
-check-requires-2 c κs = search needs
+check-requires-2 c κs = tt
 
 then-requires-7 : tie.Need-then-requires-7
-then-requires-7 c κs = search needs
+then-requires-7 c κs = tt
 
 returns : tie.Need-returns
 unfolding taskRules firstOf

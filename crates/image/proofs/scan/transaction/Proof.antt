@@ -22,7 +22,7 @@ head-requires : tie.Need-head-requires
 head-requires c κs = search needs
 
 is-accepted-requires : tie.Need-is-accepted-requires
-is-accepted-requires c κs = search needs
+is-accepted-requires c κs = tt
 
 head-at-requires : tie.Need-head-at-requires
 head-at-requires c κs = search needs
