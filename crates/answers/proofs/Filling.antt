@@ -1,4 +1,4 @@
--- Filling a working row: one store, a task by its number, and the part that is filled once for a table.
+-- Filling the work cells: one store, a task by its number, and the part that is filled once for a table.
 use mathlib.Core.Path.{_≡_, refl, sym, ap, ap₂, _∙_, subst}
 use mathlib.Core.List.{List}
 use Prim.Native.Nat.{ℕ, _+_, _-_, _*_, _≤_, _<_}
@@ -20,7 +20,7 @@ use Rattle.image.proofs.Decoded.{row-decoded}
 use Rattle.analysis.specs.Charge.{phaseOf, heldOf}
 use Rattle.answers.specs.Work.{phasesCell, heldCell, weightsCell, workCells, tableAt, Lent}
 use Rattle.answers.specs.Parts.{RowOfTable, SameTo, Phased}
-use Rattle.answers.proofs.Ranges.{tasks-few}
+use Rattle.charge.proofs.Ranges.{tasks-few}
 
 -- ---- one store, and what lies below it
 
@@ -207,7 +207,7 @@ phased-same {tab} kept same x =
           (x .held i c j is are l);
     }
 
--- ---- a working row of a table
+-- ---- the work cells of a table
 
 module _ {table : List ℕ} (x : RowOfTable table) (row : List ℕ) where
   pub same-table : take rowCells row ≡ take rowCells table → tableAt row ≡ tableOf table
@@ -242,7 +242,7 @@ lent-phased {row} lent tab e =
     subst (λ (t : Table). Phased t (inAll t) row) e
     (record { phases = λ i c j is are l. lent .phases i c j is are; held = λ i c j is are l. lent .held i c j is are })
 
--- stores from the weights on leave a working row of its table
+-- stores from the weights on leave the work cells of its table
 pub lent-same : {old : List ℕ} → Lent old → (row : List ℕ) → SameTo weightsCell old row → Lent row × (tableAt row ≡ tableAt old)
 unfolding tableAt
 lent-same {old} lent row same =

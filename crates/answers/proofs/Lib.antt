@@ -3,16 +3,11 @@ pub mod Told
 pub mod Agree
 pub mod Sample
 pub mod Fields
-pub mod Ranges
-pub mod Split
 pub mod Readings
-pub mod Phases
 pub mod Flags
-pub mod Rows
-pub mod Loads
 pub mod Signed
 pub mod Chain
-pub mod Turns
+pub mod Instants
 pub mod Walks
 pub mod Filling
 pub mod Weighing

@@ -1,6 +1,6 @@
-// Filling the working row: the table's row with its phases and held-back jobs once for a table, and the weights with their
+// Filling the work cells: the table's row with its phases and held-back jobs once for a table, and the weights with their
 // sums once for each task under analysis. What is read of the table comes from its own row at first, and then from the
-// working row.
+// work cells.
 use super::charges::Subject;
 use super::layout::Work;
 use super::reads;
@@ -16,9 +16,9 @@ ghost use Rattle.table.specs.Number.{before, inAll};
 ghost use Rattle.row.specs.Row.{rowCells, tableOf};
 ghost use Rattle.periods.specs.Phase.{phase};
 ghost use Rattle.analysis.specs.Charge.{phaseOf, heldOf};
-ghost use Rattle.answers.specs.Work.{workCells, weightsCell, Holds, Lent, Chosen, Weighs, tableAt};
-ghost use Rattle.answers.specs.Weight.{weight, heldBack};
-ghost use Rattle.answers.specs.Parts.{RowOfTable, SameTo, IsSubjectAt, Phased, TasksOf, Loaded, WeighedTo};
+ghost use Rattle.answers.specs.Work.{workCells, weightsCell, HoldsTable, Lent, Chosen, Weighs, tableAt};
+ghost use Rattle.charge.specs.Weight.{weight, heldBack};
+ghost use Rattle.answers.specs.Parts.{RowOfTable, SameTo, IsSubjectAt, Phased, TasksOf, ModeWeighed, WeighedTo};
 
 // (offset − instant) mod period
 fn phase(period: u32, offset: u32, instant: u32) -> u32
@@ -124,7 +124,7 @@ fn phases(table: &[u32; Table::CELLS], work: &mut [u32; Work::CELLS])
     }
 }
 
-// The working row of a table, once for all its tasks.
+// The work cells of a table, once for all its tasks.
 pub(crate) fn prepare(table: &[u32; Table::CELLS], work: &mut [u32; Work::CELLS])
     requires { ⌜ RowOfTable (now table) ⌝ }
     requires { ⌜ length (now work) ≡ workCells ⌝ }
@@ -137,7 +137,7 @@ pub(crate) fn prepare(table: &[u32; Table::CELLS], work: &mut [u32; Work::CELLS]
 
 // The time of task j, number k, in mode m where it is a rival of the subject, else 0.
 fn weight(work: &[u32; Work::CELLS], s: Subject, i: usize, m: usize, j: usize, k: usize) -> u32
-    requires { ⌜ Holds (now work) ⌝ }
+    requires { ⌜ HoldsTable (now work) ⌝ }
     requires { ⌜ Chosen (tableAt (now work)) s ⌝ }
     requires { ⌜ IsTask (tableAt (now work)) i j ⌝ }
     requires { ⌜ m < modes (tableAt (now work)) i ⌝ }
@@ -156,7 +156,7 @@ fn weight(work: &[u32; Work::CELLS], s: Subject, i: usize, m: usize, j: usize, k
     work[cell + (Task::TIMES_CELL + m)]
 }
 
-// The weights of transaction i in mode m, and its load.
+// The weights of transaction i in mode m, and their sum.
 fn put_weights(
     work: &mut [u32; Work::CELLS],
     s: Subject,
@@ -172,20 +172,20 @@ fn put_weights(
     requires { ⌜ WeighedTo (tableAt (now work)) (s .u) (s .a) (modesMost * i + m) (now work) ⌝ }
     ensures { λ _. ⌜ SameTo weightsCell (now (work .entry)) (now (work .exit)) ⌝ }
     ensures { λ _. ⌜ WeighedTo (tableAt (now (work .entry))) (s .u) (s .a) (modesMost * i + m) (now (work .exit)) ⌝ }
-    ensures { λ _. ⌜ Loaded (tableAt (now (work .entry))) (s .u) (s .a) i m (now (work .exit)) ⌝ }
+    ensures { λ _. ⌜ ModeWeighed (tableAt (now (work .entry))) (s .u) (s .a) i m (now (work .exit)) ⌝ }
 {
-    let mut load: u32 = 0;
+    let mut mode_weight: u32 = 0;
     let mut j: usize = 0;
     while j < count {
         let weight = weight(&*work, s, i, m, j, first + j);
         work[Work::WEIGHTS + Table::TASKS * m + (first + j)] = weight;
-        load += weight;
+        mode_weight += weight;
         j += 1;
     }
-    work[Work::LOADS + Transaction::MODES * i + m] = load;
+    work[Work::MODE_WEIGHTS + Transaction::MODES * i + m] = mode_weight;
 }
 
-// What the jobs held back to candidate c's instant weigh, from the cells of the row.
+// What the jobs held back to candidate c's instant weigh, from the cells.
 fn held_back(
     work: &[u32; Work::CELLS],
     s: Subject,
@@ -198,7 +198,7 @@ fn held_back(
     requires { ⌜ Lent (now work) ⌝ }
     requires { ⌜ TasksOf (tableAt (now work)) i first count ⌝ }
     requires { ⌜ m < modes (tableAt (now work)) i ⌝ }
-    requires { ⌜ Loaded (tableAt (now work)) (s .u) (s .a) i m (now work) ⌝ }
+    requires { ⌜ ModeWeighed (tableAt (now work)) (s .u) (s .a) i m (now work) ⌝ }
     requires { ⌜ c < count ⌝ }
     ensures { λ r. ⌜ r ≡ heldBack (tableAt (now (work .entry))) (s .u) (s .a) i m c ⌝ }
 {
@@ -225,7 +225,7 @@ fn put_sums(
     requires { ⌜ TasksOf (tableAt (now work)) i first count ⌝ }
     requires { ⌜ m < modes (tableAt (now work)) i ⌝ }
     requires { ⌜ WeighedTo (tableAt (now work)) (s .u) (s .a) (modesMost * i + m) (now work) ⌝ }
-    requires { ⌜ Loaded (tableAt (now work)) (s .u) (s .a) i m (now work) ⌝ }
+    requires { ⌜ ModeWeighed (tableAt (now work)) (s .u) (s .a) i m (now work) ⌝ }
     ensures { λ _. ⌜ SameTo weightsCell (now (work .entry)) (now (work .exit)) ⌝ }
     ensures { λ _. ⌜ WeighedTo (tableAt (now (work .entry))) (s .u) (s .a) (modesMost * i + (m + 1)) (now (work .exit)) ⌝ }
 {
@@ -258,7 +258,7 @@ fn weigh_transaction(work: &mut [u32; Work::CELLS], s: Subject, i: usize)
     }
 }
 
-// The weights of the task under analysis, in a working row of the table.
+// The weights of the task under analysis, in work cells of the table.
 pub(crate) fn weigh(work: &mut [u32; Work::CELLS], s: Subject)
     requires { ⌜ Lent (now work) ⌝ }
     requires { ⌜ Chosen (tableAt (now work)) s ⌝ }

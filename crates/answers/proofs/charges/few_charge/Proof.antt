@@ -2,23 +2,22 @@
 use borrow.Author.Needs.{needs}
 use mathlib.Core.Path.{sym}
 use native.Mathlib.Omega.{arith}
-use Rattle.answers.proofs.Ranges.{charge-le}
-use Rattle.answers.proofs.Split.{charge-split}
-use Rattle.answers.proofs.Readings.{whole-le}
+use Rattle.charge.proofs.Ranges.{charge-le}
+use Rattle.answers.proofs.Readings.{whole-le, charge-at}
 use Rattle.answers.proofs.charges.few_charge.Statement.{statement}
 use Rattle.answers.proofs.charges.few_charge.Tie as tie
 
 whole-periods-requires : tie.Need-whole-periods-requires
 whole-periods-requires c κs = search needs
 
-load-requires : tie.Need-load-requires
-load-requires c κs = search needs
+mode-weight-requires : tie.Need-mode-weight-requires
+mode-weight-requires c κs = search needs
 
 mul-passed : tie.Need-mul-passed
 mul-passed c =
     let s = c .before .before in
     let (lent, (subject, (isTask, (mode, (split, small))))) = s .pre in
-    rw (c .before .whole-periods .ensures, c .load .ensures)
+    rw (c .before .whole-periods .ensures, c .mode-weight .ensures)
     (omega (arith, whole-le (lent .holds .kept) split mode (s .args .s .u) (s .args .s .a) (s .args .whole)))
 
 few-rests-requires : tie.Need-few-rests-requires
@@ -37,8 +36,8 @@ returns c =
     let s = c .before .before .before .before .before in
     let (lent, (subject, (isTask, (mode, (split, small))))) = s .pre in
     let load = c .before .before .before in
-    rw (c .held-back .ensures, load .before .whole-periods .ensures, load .load .ensures, c .before .wide .ensures, c .before .before .few-rests .ensures)
-    (sym (charge-split (lent .holds .kept) (s .args .whole) split (s .args .s .u) (s .args .s .a) (s .args .m) (s .args .c)))
+    rw (c .held-back .ensures, load .before .whole-periods .ensures, load .mode-weight .ensures, c .before .wide .ensures, c .before .before .few-rests .ensures)
+    (sym (charge-at (lent .holds .kept) split (s .args .whole) (s .args .s .u) (s .args .s .a) (s .args .m) (s .args .c)))
 
 add-t11 : tie.Need-add-t11
 add-t11 c =
@@ -57,7 +56,7 @@ few-charge-spec =
     tie.close
     (tie.spec
     whole-periods-requires
-    load-requires
+    mode-weight-requires
     mul-passed
     few-rests-requires
     wide-requires

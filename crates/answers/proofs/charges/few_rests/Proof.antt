@@ -2,14 +2,14 @@
 use native.Mathlib.Nat.{add-zero}
 use native.Mathlib.Omega.{arith}
 use Rattle.table.specs.Sum.{sum as sumOf}
-use Rattle.answers.proofs.Readings.{InRow, in-row, rest-needs, rest-first, rests-in, rests-room}
+use Rattle.answers.proofs.Readings.{InWork, in-work, rest-needs, rest-first, rests-in, rests-room}
 use Rattle.answers.proofs.charges.few_rests.Statement.{statement}
 use Rattle.answers.proofs.charges.few_rests.Tie as tie
 
-few : (s : tie.Start) → InRow (s .args .x) (s .args .m) (s .args .c)
+few : (s : tie.Start) → InWork (s .args .x) (s .args .m) (s .args .c)
 few s =
     let (lent, (subject, (isTask, (mode, (split, small))))) = s .pre in
-    in-row lent split isTask mode
+    in-work lent split isTask mode
 
 add-phases : tie.Need-add-phases
 add-phases c = omega (arith, few (c .before))

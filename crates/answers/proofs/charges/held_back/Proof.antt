@@ -1,14 +1,15 @@
 -- The held-back sum of candidate c in mode m stands in two cells. Assumes nothing.
 use borrow.Author.Needs.{needs}
 use native.Mathlib.Omega.{arith}
-use Rattle.answers.proofs.Readings.{InRow, in-row, sum-at, held-back-le}
+use Rattle.charge.proofs.Weights.{held-back-le}
+use Rattle.answers.proofs.Readings.{InWork, in-work, sum-at}
 use Rattle.answers.proofs.charges.held_back.Statement.{statement}
 use Rattle.answers.proofs.charges.held_back.Tie as tie
 
-few : (s : tie.Start) → InRow (s .args .x) (s .args .m) (s .args .c)
+few : (s : tie.Start) → InWork (s .args .x) (s .args .m) (s .args .c)
 few s =
     let (lent, (subject, (isTask, (mode, split)))) = s .pre in
-    in-row lent split isTask mode
+    in-work lent split isTask mode
 
 add-at : tie.Need-add-at
 add-at c = omega (arith, few (c .before))

@@ -6,18 +6,18 @@ use Rattle.table.specs.Limits.{tasksMost, tasksInAll}
 use Rattle.table.specs.Number.{before, number}
 use Rattle.table.proofs.Number.{number-lt}
 use Rattle.answers.specs.Work.{tableAt}
-use Rattle.answers.proofs.Ranges.{tasks-few}
+use Rattle.charge.proofs.Ranges.{tasks-few}
 use Rattle.answers.proofs.charges.place.Statement.{statement}
 use Rattle.answers.proofs.charges.place.Tie as tie
 
 few :
     (s : tie.Start)
-    → (before (tableAt (s .args .row .now)) (s .args .i) + s .args .c < tasksInAll) × (s .args .j < tasksMost)
+    → (before (tableAt (s .args .work .now)) (s .args .i) + s .args .c < tasksInAll) × (s .args .j < tasksMost)
 unfolding number
 few s =
     let (holds, (candidate, isTask)) = s .pre in
     let tasks = tasks-few (holds .kept) (isTask .owner) in
-    (omega (arith, number-lt (tableAt (s .args .row .now)) candidate, holds .kept .fewTasks), omega (arith, isTask .place))
+    (omega (arith, number-lt (tableAt (s .args .work .now)) candidate, holds .kept .fewTasks), omega (arith, isTask .place))
 
 before-requires : tie.Need-before-requires
 before-requires c κs = search needs

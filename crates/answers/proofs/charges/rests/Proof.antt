@@ -3,21 +3,21 @@ use mathlib.Core.Path.{_≡_, refl, _∙_}
 use Prim.Native.Nat.{_-_, _≤_}
 use native.Mathlib.Omega.{arith}
 use Rattle.table.specs.Sum.{sum as sumOf}
-use Rattle.answers.proofs.Ranges.{sum-next}
-use Rattle.answers.proofs.Readings.{restCell, InRow, in-row, rest-needs, rests-in, rests-room}
+use Rattle.charge.proofs.Ranges.{sum-next}
+use Rattle.answers.proofs.Readings.{restCell, InWork, in-work, rest-needs, rests-in, rests-room}
 use Rattle.answers.proofs.charges.rests.Statement.{statement}
 use Rattle.answers.proofs.charges.rests.Tie as tie
 
 abbrev Inv-loop : tie.InvT-loop
-Inv-loop row whole i m c x phases weights count sum₀ j₀ sum j = (j ≤ count) × (sum ≡ sumOf j (restCell row whole x phases weights))
+Inv-loop work whole i m c x phases weights count sum₀ j₀ sum j = (j ≤ count) × (sum ≡ sumOf j (restCell work whole x phases weights))
 
 abbrev μ-loop : tie.MeasureT-loop
-μ-loop row whole i m c x phases weights count sum₀ j₀ sum j = count - j
+μ-loop work whole i m c x phases weights count sum₀ j₀ sum j = count - j
 
-few : (s : tie.Start Inv-loop μ-loop) → InRow (s .args .x) (s .args .m) (s .args .c)
+few : (s : tie.Start Inv-loop μ-loop) → InWork (s .args .x) (s .args .m) (s .args .c)
 few s =
     let (lent, (subject, (isTask, (mode, split)))) = s .pre in
-    in-row lent split isTask mode
+    in-work lent split isTask mode
 
 add-phases : tie.Need-add-phases Inv-loop μ-loop
 add-phases c = omega (arith, few (c .before))

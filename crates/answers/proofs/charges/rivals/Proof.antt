@@ -8,18 +8,18 @@ use lib.ListN.{getD}
 use Rattle.table.specs.Limits.{transactionsMost}
 use Rattle.table.specs.Table.{transactions}
 use Rattle.analysis.specs.Charge.{rivals}
-use Rattle.answers.specs.Links.{NextOther}
+use Rattle.charge.specs.Links.{NextOther}
 use Rattle.answers.specs.Work.{othersCell, tableAt}
-use Rattle.answers.proofs.Ranges.{rivals-lt}
-use Rattle.answers.proofs.Rows.{Others, others-first, others-few, others-next}
+use Rattle.charge.proofs.Ranges.{rivals-lt}
+use Rattle.charge.proofs.Along.{Others, others-first, others-few, others-next}
 use Rattle.answers.proofs.charges.rivals.Statement.{statement}
 use Rattle.answers.proofs.charges.rivals.Tie as tie
 
 abbrev Inv-loop : tie.InvT-loop
-Inv-loop row s whole m c t count sum₀ i₀ sum i = Others whole (tableAt row) (s .u) (s .a) (t .0) sum i
+Inv-loop work s whole m c t count sum₀ i₀ sum i = Others whole (tableAt work) (s .u) (s .a) (t .0) sum i
 
 abbrev μ-loop : tie.MeasureT-loop
-μ-loop row s whole m c t count sum₀ i₀ sum i = count - i
+μ-loop work s whole m c t count sum₀ i₀ sum i = count - i
 
 transactions-requires : tie.Need-transactions-requires Inv-loop μ-loop
 transactions-requires c κs = c .pre .0 .holds
@@ -35,7 +35,7 @@ loop-holds c =
     let s = c .before .before .before in
     rw (c .index .ensures) (others-first (s .args .whole) (s .args .t .0) (s .pre .1 .0 .others 0 (omega arith)))
 
--- the places read lie within the row
+-- the places read lie within the cells
 few : (c : tie.After-greatest Inv-loop μ-loop) → c .before .before .loop .i < transactionsMost
 few c =
     omega (arith, c .before .before .before .before .before .transactions .ensures, c .before .before .before .before .before .before .pre .0 .holds .kept .fewTransactions)
@@ -67,7 +67,7 @@ element-copy-out-index-2 c = omega (arith, few (c .before))
 next :
     (c : tie.After-greatest Inv-loop μ-loop)
     → let s = c .before .before .before .before .before .before in
-    NextOther (tableAt (s .args .row .now)) (s .args .s .u) (s .args .s .a) (c .before .before .loop .i + 1) (getD (s .args .row .now) (othersCell + (c .before .before .loop .i + 1)) 0)
+    NextOther (tableAt (s .args .work .now)) (s .args .s .u) (s .args .s .a) (c .before .before .loop .i + 1) (getD (s .args .work .now) (othersCell + (c .before .before .loop .i + 1)) 0)
 next c = c .before .before .before .before .before .before .pre .1 .0 .others (c .before .before .loop .i + 1) (omega (arith, c .before .before .before .before .before .transactions .ensures))
 
 index-requires-2 : tie.Need-index-requires-2 Inv-loop μ-loop
@@ -98,7 +98,7 @@ returns c =
     let others = c .before .before .before .before .loop .inv in
     let charged = c .before .charge .ensures in
     let at = c .before .before .split-of .ensures .at in
-    let all : c .before .before .before .before .loop .i ≡ transactions (tableAt (c .before .before .before .before .before .before .before .before .args .row .now)) = omega (arith, others .within, c .before .before .before .before .before .before .before .transactions .ensures) in
+    let all : c .before .before .before .before .loop .i ≡ transactions (tableAt (c .before .before .before .before .before .before .before .before .args .work .now)) = omega (arith, others .within, c .before .before .before .before .before .before .before .transactions .ensures) in
     cc (others .sum)
 
 add-t23 : tie.Need-add-t23 Inv-loop μ-loop

@@ -5,7 +5,7 @@ use native.Mathlib.Omega.{arith}
 use native.Mathlib.Nat.{mod-lt, div-add-mod'}
 use Rattle.analysis.proofs.Charges.{kept-period}
 use Rattle.answers.specs.Split.{moment}
-use Rattle.answers.proofs.Ranges.{period-lt}
+use Rattle.charge.proofs.Ranges.{period-lt}
 use Rattle.answers.proofs.charges.split_of.Statement.{statement}
 use Rattle.answers.proofs.charges.split_of.Tie as tie
 

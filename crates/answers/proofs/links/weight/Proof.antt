@@ -6,19 +6,19 @@ use Rattle.table.specs.Limits.{modesMost, tasksInAll}
 use Rattle.table.specs.Number.{before, number}
 use Rattle.table.proofs.Number.{number-lt}
 use Rattle.answers.specs.Work.{tableAt}
-use Rattle.answers.proofs.Ranges.{modes-few}
+use Rattle.charge.proofs.Ranges.{modes-few}
 use Rattle.answers.proofs.links.weight.Statement.{statement}
 use Rattle.answers.proofs.links.weight.Tie as tie
 
--- the places read lie within the row
+-- the places read lie within the cells
 few :
     (s : tie.Start)
-    → (before (tableAt (s .args .row .now)) (s .args .i) + s .args .j < tasksInAll) × (s .args .m < modesMost)
+    → (before (tableAt (s .args .work .now)) (s .args .i) + s .args .j < tasksInAll) × (s .args .m < modesMost)
 unfolding number
 few s =
     let (lent, (weighs, (isTask, mode))) = s .pre in
     let modes = modes-few (lent .holds .kept) (isTask .owner) in
-    (omega (arith, number-lt (tableAt (s .args .row .now)) isTask, lent .holds .kept .fewTasks), omega arith)
+    (omega (arith, number-lt (tableAt (s .args .work .now)) isTask, lent .holds .kept .fewTasks), omega arith)
 
 mul-result : tie.Need-mul-result
 mul-result c = omega (arith, few c)

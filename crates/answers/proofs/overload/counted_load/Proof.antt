@@ -24,7 +24,7 @@ load-requires c κs = search needs
 counts :
     (c : tie.Joined1)
     → c .before .before .args .i ≡ c .before .before .args .s .u
-    → Runs (tableAt (c .before .before .args .row .now)) (c .before .before .args .s .u) (c .before .before .args .m)
+    → Runs (tableAt (c .before .before .args .work .now)) (c .before .before .args .s .u) (c .before .before .args .m)
     (c .before .before .args .s .a)
 counts c = ⊎-elim (λ w e. omega (arith, w .1, w .2)) (λ w e. absurd (w .left e)) (c .if1 .came)
 

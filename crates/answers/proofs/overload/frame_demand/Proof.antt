@@ -5,17 +5,17 @@ use native.Mathlib.Omega.{arith}
 use Rattle.table.specs.Sum.{sum as sumOf}
 use Rattle.analysis.specs.Overload.{frameDemand}
 use Rattle.answers.specs.Work.{tableAt}
-use Rattle.answers.proofs.Ranges.{sum-next}
-use Rattle.answers.proofs.Loads.{share, demand-room}
+use Rattle.charge.proofs.Ranges.{sum-next}
+use Rattle.charge.proofs.Loads.{share, demand-room}
 use Rattle.answers.proofs.overload.frame_demand.Statement.{statement}
 use Rattle.answers.proofs.overload.frame_demand.Tie as tie
 
 abbrev Inv-loop : tie.InvT-loop
-Inv-loop row s count sum₀ i₀ sum i =
-    (i ≤ count) × (sum ≡ sumOf i (share (tableAt row) (s .u) (s .a)))
+Inv-loop work s count sum₀ i₀ sum i =
+    (i ≤ count) × (sum ≡ sumOf i (share (tableAt work) (s .u) (s .a)))
 
 abbrev μ-loop : tie.MeasureT-loop
-μ-loop row s count sum₀ i₀ sum i = count - i
+μ-loop work s count sum₀ i₀ sum i = count - i
 
 transactions-requires : tie.Need-transactions-requires Inv-loop μ-loop
 transactions-requires c κs = c .pre .0 .holds

@@ -15,7 +15,7 @@ frame-demand-requires c κs = search needs
 returns : tie.Need-returns
 returns c =
     let a = c .before .before .args in
-    rw (c .before .frame .ensures, c .frame-demand .ensures) (tested-lt _ _ (overload? (tableAt (a .row .now)) (a .s .u) (a .s .a)))
+    rw (c .before .frame .ensures, c .frame-demand .ensures) (tested-lt _ _ (overload? (tableAt (a .work .now)) (a .s .u) (a .s .a)))
 
 pub is-overload-spec : {M : Type 1} → statement M
 is-overload-spec = tie.close (tie.spec frame-requires frame-demand-requires returns)

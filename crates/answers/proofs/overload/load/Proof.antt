@@ -5,17 +5,17 @@ use native.Mathlib.Omega.{arith}
 use Rattle.table.specs.Sum.{sum as sumOf}
 use Rattle.analysis.specs.Overload.{load}
 use Rattle.answers.specs.Work.{tableAt}
-use Rattle.answers.proofs.Ranges.{sum-next}
-use Rattle.answers.proofs.Loads.{urgentTime, load-room}
+use Rattle.charge.proofs.Ranges.{sum-next}
+use Rattle.charge.proofs.Loads.{urgentTime, load-room}
 use Rattle.answers.proofs.overload.load.Statement.{statement}
 use Rattle.answers.proofs.overload.load.Tie as tie
 
 abbrev Inv-loop : tie.InvT-loop
-Inv-loop row s i m count sum₀ j₀ sum j =
-    (j ≤ count) × (sum ≡ sumOf j (urgentTime (tableAt row) (s .u) (s .a) i m))
+Inv-loop work s i m count sum₀ j₀ sum j =
+    (j ≤ count) × (sum ≡ sumOf j (urgentTime (tableAt work) (s .u) (s .a) i m))
 
 abbrev μ-loop : tie.MeasureT-loop
-μ-loop row s i m count sum₀ j₀ sum j = count - j
+μ-loop work s i m count sum₀ j₀ sum j = count - j
 
 tasks-requires : tie.Need-tasks-requires Inv-loop μ-loop
 tasks-requires c κs = (c .pre .0 .holds, c .pre .1 .1 .0)

@@ -2,7 +2,7 @@
 use borrow.Author.Needs.{needs}
 use native.Mathlib.Omega.{arith}
 use Rattle.analysis.proofs.Charges.{kept-period}
-use Rattle.answers.proofs.Loads.{share-le}
+use Rattle.charge.proofs.Loads.{share-le}
 use Rattle.answers.proofs.overload.share.Statement.{statement}
 use Rattle.answers.proofs.overload.share.Tie as tie
 

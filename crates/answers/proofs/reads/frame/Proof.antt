@@ -12,7 +12,7 @@ wide-requires : tie.Need-wide-requires
 wide-requires c κs = search needs
 
 returns : tie.Need-returns
-returns c = c .wide .ensures ∙ sym (frame-cell (c .before .before .args .row .now))
+returns c = c .wide .ensures ∙ sym (frame-cell (c .before .before .args .work .now))
 
 pub frame-spec : {M : Type 1} → statement M
 frame-spec = tie.close (tie.spec element-copy-out-wide wide-requires returns)

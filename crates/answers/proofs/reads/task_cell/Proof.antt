@@ -1,4 +1,4 @@
--- The cells of a task lie within the row, since its number is below the count of all tasks. Assumes nothing.
+-- The cells of a task lie within the work, since its number is below the count of all tasks. Assumes nothing.
 use borrow.Author.Needs.{needs}
 use native.Mathlib.Omega.{arith}
 use Rattle.answers.proofs.Fields.{task-cells}

@@ -12,7 +12,7 @@ index-requires : tie.Need-index-requires
 index-requires c κs = search needs
 
 returns : tie.Need-returns
-returns c = c .index .ensures ∙ sym (transactions-cell (c .before .before .args .row .now))
+returns c = c .index .ensures ∙ sym (transactions-cell (c .before .before .args .work .now))
 
 pub transactions-spec : {M : Type 1} → statement M
 transactions-spec = tie.close (tie.spec element-copy-out-index index-requires returns)

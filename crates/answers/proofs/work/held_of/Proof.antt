@@ -4,7 +4,7 @@ use native.Mathlib.Omega.{arith}
 use Rattle.periods.specs.Phase.{held}
 use Rattle.analysis.specs.Charge.{heldOf}
 use Rattle.analysis.proofs.Charges.{kept-period}
-use Rattle.answers.proofs.Ranges.{jitter-lt, phase-of-lt}
+use Rattle.charge.proofs.Ranges.{jitter-lt, phase-of-lt}
 use Rattle.answers.proofs.work.held_of.Statement.{statement}
 use Rattle.answers.proofs.work.held_of.Tie as tie
 

@@ -3,7 +3,7 @@ use borrow.Author.Needs.{needs}
 use native.Mathlib.Omega.{arith}
 use Rattle.analysis.specs.Charge.{phaseOf}
 use Rattle.analysis.proofs.Charges.{kept-period}
-use Rattle.answers.proofs.Ranges.{period-lt, offset-lt, jitter-lt}
+use Rattle.charge.proofs.Ranges.{period-lt, offset-lt, jitter-lt}
 use Rattle.answers.proofs.work.phase_of.Statement.{statement}
 use Rattle.answers.proofs.work.phase_of.Tie as tie
 

@@ -7,7 +7,7 @@ use borrow.Author.Needs.{needs}
 use denote.Ref.{now}
 use Rattle.table.specs.Table.{tasks as tasksIn}
 use Rattle.row.specs.Row.{tableOf}
-use Rattle.answers.proofs.Ranges.{tasks-few}
+use Rattle.charge.proofs.Ranges.{tasks-few}
 use Rattle.answers.proofs.Filling.{PhasesTo, phases-none, phases-next, phases-all}
 use Rattle.answers.proofs.work.put_phases.Statement.{statement}
 use Rattle.answers.proofs.work.put_phases.Tie as tie

@@ -6,9 +6,9 @@ use native.Mathlib.Omega.{arith}
 use Rattle.table.specs.Limits.{modesMost, tasksInAll}
 use Rattle.table.specs.Table.{Table}
 use Rattle.answers.specs.Work.{tableAt, Lent}
-use Rattle.answers.specs.Weight.{heldBack}
+use Rattle.charge.specs.Weight.{heldBack}
 use Rattle.answers.proofs.Filling.{same-less, lent-same}
-use Rattle.answers.proofs.Weighing.{small, loaded-same, SumsTo, sums-none, sums-next, sums-all}
+use Rattle.answers.proofs.Weighing.{small, mode-weighed-same, SumsTo, sums-none, sums-next, sums-all}
 use Rattle.answers.proofs.work.put_sums.Statement.{statement}
 use Rattle.answers.proofs.work.put_sums.Tie as tie
 
@@ -39,7 +39,7 @@ held-back-requires c κs =
     let x = l .before .args in
     let (lent, (own, (mode, (done, loaded)))) = l .before .pre in
     let (now, e) = present l in
-    (now, rw e (own, (mode, (loaded-same (lent .holds .kept) (x .s .u) (x .s .a) (own .owner) mode (l .loop .inv .1 .same) loaded, c .before .loop-test .taken))))
+    (now, rw e (own, (mode, (mode-weighed-same (lent .holds .kept) (x .s .u) (x .s .a) (own .owner) mode (l .loop .inv .1 .same) loaded, c .before .loop-test .taken))))
 
 add-at : tie.Need-add-at Inv-loop μ-loop
 add-at c = omega (arith, few (c .before .before))

@@ -1,23 +1,23 @@
--- The loop has stored the weights of the first j tasks, and `load` is their sum. Assumes nothing.
+-- The loop has stored the weights of the first j tasks, and `mode_weight` is their sum. Assumes nothing.
 use mathlib.Core.Path.{_≡_, ap, _∙_, subst}
 use Prim.Native.Nat.{ℕ, _+_, _-_, _≤_, _<_}
 use native.Mathlib.Omega.{arith}
 use Rattle.table.specs.Limits.{transactionsMost, modesMost, tasksInAll}
 use Rattle.table.specs.Table.{Table}
 use Rattle.answers.specs.Work.{tableAt, Lent}
-use Rattle.answers.specs.Weight.{weight}
-use Rattle.answers.proofs.Ranges.{modes-few}
+use Rattle.charge.specs.Weight.{weight}
+use Rattle.charge.proofs.Ranges.{modes-few}
 use Rattle.answers.proofs.Filling.{lent-same}
-use Rattle.answers.proofs.Weighing.{small, WeightsTo, weights-none, load-room, weights-next, weights-all}
+use Rattle.answers.proofs.Weighing.{small, WeightsTo, weights-none, weights-room, weights-next, weights-all}
 use Rattle.answers.proofs.work.put_weights.Statement.{statement}
 use Rattle.answers.proofs.work.put_weights.Tie as tie
 
 abbrev Inv-loop : tie.InvT-loop
-Inv-loop work₀ s i m first count load₀ j₀ work load j =
-    (j ≤ count) × WeightsTo (tableAt work₀) (s .u) (s .a) i m first j load work₀ work
+Inv-loop work₀ s i m first count modeWeight₀ j₀ work modeWeight j =
+    (j ≤ count) × WeightsTo (tableAt work₀) (s .u) (s .a) i m first j modeWeight work₀ work
 
 abbrev μ-loop : tie.MeasureT-loop
-μ-loop work₀ s i m first count load₀ j₀ work load j = count - j
+μ-loop work₀ s i m first count modeWeight₀ j₀ work modeWeight j = count - j
 
 -- the cells stored lie within the row
 
@@ -69,13 +69,13 @@ mul-work-2 c = omega (arith, few (c .before .before))
 element-write-work : tie.Need-element-write-work Inv-loop μ-loop
 element-write-work c = omega (arith, few (c .before .before))
 
-add-load : tie.Need-add-load Inv-loop μ-loop
-add-load c =
+add-mode-weight : tie.Need-add-mode-weight Inv-loop μ-loop
+add-mode-weight c =
     let l = c .before .before .before in
     let x = l .before .args in
     let (lent, (chosen, (own, (mode, done)))) = l .before .pre in
     let is = c .weight .ensures ∙ ap (λ (t : Table). weight t (x .s .u) (x .s .a) (x .i) (x .m) (l .loop .j)) (present l .1) in
-    omega (arith, is, l .loop .inv .1 .load, load-room (lent .holds .kept) (x .s .u) (x .s .a) own mode (c .before .before .loop-test .taken))
+    omega (arith, is, l .loop .inv .1 .modeWeight, weights-room (lent .holds .kept) (x .s .u) (x .s .a) own mode (c .before .before .loop-test .taken))
 
 add-j : tie.Need-add-j Inv-loop μ-loop
 add-j c = omega (arith, few (c .before .before))
@@ -117,7 +117,7 @@ returns c =
     let (most, to) = l .loop .inv in
     let all : l .loop .j ≡ x .count = omega (arith, c .loop-test .left) in
     weights-all (lent .holds .kept) (x .s .u) (x .s .a) own mode (to .same .size ∙ lent .holds .size)
-    (subst (λ (n : ℕ). WeightsTo (tableAt (x .work .now)) (x .s .u) (x .s .a) (x .i) (x .m) (x .first) n (l .loop .load) (x .work .now) (l .loop .work)) all to)
+    (subst (λ (n : ℕ). WeightsTo (tableAt (x .work .now)) (x .s .u) (x .s .a) (x .i) (x .m) (x .first) n (l .loop .mode-weight) (x .work .now) (l .loop .work)) all to)
 
 pub put-weights-spec : {M : Type 1} → statement M
 put-weights-spec =
@@ -134,7 +134,7 @@ put-weights-spec =
     add-work-3
     mul-work-2
     element-write-work
-    add-load
+    add-mode-weight
     add-j
     loop-less
     loop-again

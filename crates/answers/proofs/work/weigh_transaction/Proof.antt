@@ -7,7 +7,7 @@ use Rattle.table.specs.Limits.{modesMost}
 use Rattle.table.specs.Table.{Table, modes as modesIn}
 use Rattle.answers.specs.Work.{weightsCell, tableAt, Lent}
 use Rattle.answers.specs.Parts.{SameTo, TasksOf, WeighedTo}
-use Rattle.answers.proofs.Ranges.{modes-few}
+use Rattle.charge.proofs.Ranges.{modes-few}
 use Rattle.answers.proofs.Filling.{same-refl, same-trans, lent-same}
 use Rattle.answers.proofs.Weighing.{weighed-next}
 use Rattle.answers.proofs.work.weigh_transaction.Statement.{statement}

@@ -11,8 +11,8 @@ use Rattle.table.proofs.Number.{number-lt}
 use Rattle.row.specs.Row.{taskCell, priorityCell}
 use Rattle.answers.specs.Work.{tableAt}
 use Rattle.answers.proofs.Fields.{priority-cell, time-cell}
-use Rattle.answers.proofs.Ranges.{modes-few}
-use Rattle.answers.proofs.Weighing.{weight-none, weight-time}
+use Rattle.charge.proofs.Ranges.{modes-few}
+use Rattle.charge.proofs.Weights.{weight-none, weight-time}
 use Rattle.answers.proofs.work.weight.Statement.{statement}
 use Rattle.answers.proofs.work.weight.Tie as tie
 

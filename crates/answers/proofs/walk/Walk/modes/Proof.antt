@@ -15,14 +15,14 @@ use Rattle.answers.proofs.walk.Walk.modes.Statement.{statement}
 use Rattle.answers.proofs.walk.Walk.modes.Tie as tie
 
 abbrev Inv-loop : tie.InvT-loop
-Inv-loop row s budget count state₀ m₀ state m =
+Inv-loop work s budget count state₀ m₀ state m =
     Going budget
-    (walkTurns imposed (tableAt row) (s .u) (s .a) (walkOrder (tableAt row) (s .u) (s .a)) (budget - state₀ .used) (state₀ .best))
-    (walkTurns imposed (tableAt row) (s .u) (s .a) (modesFrom (tableAt row) (s .u) (s .a) m (count - m)))
+    (walkTurns imposed (tableAt work) (s .u) (s .a) (walkOrder (tableAt work) (s .u) (s .a)) (budget - state₀ .used) (state₀ .best))
+    (walkTurns imposed (tableAt work) (s .u) (s .a) (modesFrom (tableAt work) (s .u) (s .a) m (count - m)))
     state
 
 abbrev μ-loop : tie.MeasureT-loop
-μ-loop row s budget count state₀ m₀ state m = count - m
+μ-loop work s budget count state₀ m₀ state m = count - m
 
 modes-requires : tie.Need-modes-requires Inv-loop μ-loop
 modes-requires c κs =
@@ -34,7 +34,7 @@ unfolding walkOrder runningModes
 loop-holds c =
     let a = c .before .args in
     let (lent, (subject, within)) = c .before .pre in
-    let all : c .modes .result - 0 ≡ modes (tableAt (now (a .row))) (a .s .u) = omega (arith, c .modes .ensures) in
+    let all : c .modes .result - 0 ≡ modes (tableAt (now (a .work))) (a .s .u) = omega (arith, c .modes .ensures) in
     record { within = within; same = rw all refl }
 
 mode-requires : tie.Need-mode-requires Inv-loop μ-loop
@@ -50,7 +50,7 @@ returns : tie.Need-returns Inv-loop μ-loop
 returns c =
     let d = c .before .before .before in
     let a = d .before .before .args in
-    let next = modes-next imposed (tableAt (now (a .row))) (a .s .u) (a .s .a) (d .before .modes .result) (d .loop .m) (c .before .before .loop-test .taken) in
+    let next = modes-next imposed (tableAt (now (a .work))) (a .s .u) (a .s .a) (d .before .modes .result) (d .loop .m) (c .before .before .loop-test .taken) in
     going-stops (d .loop .inv) next (c .before .mode .ensures) (stays (c .before .mode .result) (c .match .keys2))
 
 add-m : tie.Need-add-m Inv-loop μ-loop
@@ -64,14 +64,14 @@ loop-again c =
     let k = c .before .before .before in
     let d = k .before .before in
     let a = d .before .before .args in
-    let next = modes-next imposed (tableAt (now (a .row))) (a .s .u) (a .s .a) (d .before .modes .result) (d .loop .m) (k .before .loop-test .taken) in
+    let next = modes-next imposed (tableAt (now (a .work))) (a .s .u) (a .s .a) (d .before .modes .result) (d .loop .m) (k .before .loop-test .taken) in
     going-on (d .loop .inv) next (k .mode .ensures) (c .before .step .given .1)
 
 returns-2 : tie.Need-returns-2 Inv-loop μ-loop
 returns-2 c =
     let d = c .before in
     let a = d .before .before .args in
-    going-ends (d .loop .inv) (modes-none imposed (tableAt (now (a .row))) (a .s .u) (a .s .a) (d .before .modes .result) (d .loop .m) (c .loop-test .left))
+    going-ends (d .loop .inv) (modes-none imposed (tableAt (now (a .work))) (a .s .u) (a .s .a) (d .before .modes .result) (d .loop .m) (c .loop-test .left))
 
 pub modes-spec : {M : Type 1} → statement M
 modes-spec =

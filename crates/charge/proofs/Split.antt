@@ -9,21 +9,19 @@ use native.Mathlib.Decide.{decLt, decLe}
 use native.Mathlib.Omega.{arith}
 use borrow.Author.Tests.{lt-ltb, le-ltb, le-leb, lt-leb}
 use Rattle.table.specs.Sum.{sum}
-use Rattle.table.specs.Table.{Table, period, modes, tasks, time}
+use Rattle.table.specs.Table.{Table, transactions, period, tasks, time}
 use Rattle.table.specs.Kept.{Kept}
-use Rattle.table.proofs.Sum.{sum-le, sum-ext, sum-add, sum-mul, sum-term}
+use Rattle.table.proofs.Sum.{sum-le, sum-ext, sum-add, sum-mul}
 use Rattle.periods.proofs.Phase.{phase-lt}
 use Rattle.periods.proofs.Charge.{imposed-is, released-is}
 use Rattle.periods.proofs.Split.{rel-passed, rel-waiting, imp-passed, imp-waiting, imp-first}
-use Rattle.analysis.specs.Choice.{when, most}
+use Rattle.analysis.specs.Choice.{when}
 use Rattle.analysis.specs.Rival.{rival?}
-use Rattle.analysis.specs.Charge.{Later, phaseOf, heldOf, taskCharge, charge, greatest}
-use Rattle.analysis.proofs.Choice.{most-ge, most-le}
+use Rattle.analysis.specs.Charge.{phaseOf, heldOf, taskCharge, charge}
 use Rattle.analysis.proofs.Charges.{kept-period}
-use Rattle.answers.specs.declared.charges.Split.{Split}
-use Rattle.answers.specs.Quantity.{laterOf}
-use Rattle.answers.specs.Split.{moment, IsSplit, wholePeriods, restOf, restAt, rests}
-use Rattle.answers.specs.Weight.{weight, weights, heldBack}
+use Rattle.charge.specs.Later.{laterOf}
+use Rattle.charge.specs.Split.{wholePeriods, restOf, restAt, rests, chargeCap}
+use Rattle.charge.specs.Weight.{weight, modeWeight, heldBack}
 
 -- ---- the rest of one task, case by case
 
@@ -134,76 +132,42 @@ weighed (yes a) whole held C h φ below q r rest = ap (λ (x : ℕ). held * C + 
 weighed (no f) whole held C {T} h φ below q r rest =
     omega (arith, mul-zero held, mul-zero (wholePeriods whole q), rest-le whole q T r φ 0)
 
--- so a task that weighs nothing is not chosen, and any other is
-
-none : {A : Type 0} (d : Dec A) (C x : ℕ) → (A → 0 < C) → when d C ≡ 0 → when d x ≡ 0
-unfolding when
-none (yes a) C x some e = absurd (omega (arith, some a))
-none (no f) C x some e = refl
-
-all : {A : Type 0} (d : Dec A) (C x : ℕ) → ¬ (when d C ≡ 0) → when d x ≡ x
-unfolding when
-all (yes a) C x h = refl
-all (no f) C x h = absurd (h refl)
-
-module _ (tab : Table) (u a i m j : ℕ) where
-  pub weightless : weight tab u a i m j ≡ 0 → (x : ℕ) → when (rival? tab u a i m j) x ≡ 0
-  unfolding weight
-  weightless e x = none (rival? tab u a i m j) (time tab i m j) x (λ r. r .runs) e
-
-  pub weighty : ¬ (weight tab u a i m j ≡ 0) → (x : ℕ) → when (rival? tab u a i m j) x ≡ x
-  unfolding weight
-  weighty h x = all (rival? tab u a i m j) (time tab i m j) x h
-
--- and a transaction whose weights are 0 in every mode charges nothing
-pub greatest-weightless : (later : Later) (tab : Table) (u a i t : ℕ) → most (modes tab i) (weights tab u a i) ≡ 0 → greatest later tab u a i t ≡ 0
-unfolding greatest weights
-greatest-weightless later tab u a i t e =
-    let none : greatest later tab u a i t ≤ 0 =
-    most-le (modes tab i)
-    (λ m l. most-le (tasks tab i)
-    (λ c k.
-    let zero : weight tab u a i m c ≡ 0 = omega (arith, sum-term (tasks tab i) (weight tab u a i m) c k, most-ge (modes tab i) (weights tab u a i) m l) in
-    omega (arith, weightless tab u a i m c zero (charge later tab u a i m c t)))) in
-    omega arith
-
-module _ {tab : Table} (kept : Kept tab) (whole : Bool) {i : ℕ} {x : Split} (split : IsSplit tab i x) (u a m c : ℕ) where
+module _ {tab : Table} (kept : Kept tab) (whole : Bool) {i : ℕ} (owner : i < transactions tab) (q r : ℕ) (below : r < period tab i) (u a m c : ℕ) where
   rival-split :
       (j : ℕ)
-      → when (rival? tab u a i m j) (taskCharge (laterOf whole) tab i m c (moment x) j)
+      → when (rival? tab u a i m j) (taskCharge (laterOf whole) tab i m c (q * period tab i + r) j)
       ≡ heldOf tab i c j * weight tab u a i m j
-      + (wholePeriods whole (x .periods) * weight tab u a i m j + restAt whole x tab u a i m c j)
-  unfolding taskCharge weight restAt moment phaseOf
+      + (wholePeriods whole q * weight tab u a i m j + restAt whole tab u a i m c q r j)
+  unfolding taskCharge weight restAt phaseOf
   rival-split j =
-      rw (split .period)
-      (weighed (rival? tab u a i m j) whole (heldOf tab i c j) (time tab i m j) (kept-period kept (split .owner)) (phaseOf tab i c j) (phase-lt (kept-period kept (split .owner)) _ _) (x .periods) (x .rest) (omega (arith, split .below, split .period)))
+      weighed (rival? tab u a i m j) whole (heldOf tab i c j) (time tab i m j) (kept-period kept owner) (phaseOf tab i c j) (phase-lt (kept-period kept owner) _ _) q r below
 
   pub charge-split :
-      charge (laterOf whole) tab u a i m c (moment x)
-      ≡ heldBack tab u a i m c + wholePeriods whole (x .periods) * weights tab u a i m + rests whole x tab u a i m c
-  unfolding charge heldBack weights rests
+      charge (laterOf whole) tab u a i m c (q * period tab i + r)
+      ≡ heldBack tab u a i m c + wholePeriods whole q * modeWeight tab u a i m + rests whole tab u a i m c q r
+  unfolding charge heldBack modeWeight rests
   charge-split =
       let n = tasks tab i in
-      let q = wholePeriods whole (x .periods) in
+      let p = wholePeriods whole q in
       let w = weight tab u a i m in
       let held : ℕ → ℕ = λ j. heldOf tab i c j * w j in
-      let passed : ℕ → ℕ = λ j. q * w j in
-      let rest = restAt whole x tab u a i m c in
+      let passed : ℕ → ℕ = λ j. p * w j in
+      let rest = restAt whole tab u a i m c q r in
       let each = sum-ext n (λ j l. rival-split j) in
       let both = sum-add n held (λ j. passed j + rest j) in
       let later = sum-add n passed rest in
-      let turned = sum-ext n {f = passed} {g = λ j. w j * q} (λ j l. mul-comm q (w j)) in
-      omega (arith, each, both, later, turned, sum-mul n w q, mul-comm (sum n w) q)
+      let turned = sum-ext n {f = passed} {g = λ j. w j * p} (λ j l. mul-comm p (w j)) in
+      omega (arith, each, both, later, turned, sum-mul n w p, mul-comm (sum n w) p)
 
   -- the rests with the whole periods are at most a period more
-  pub charge-ceiling : charge (laterOf whole) tab u a i m c (moment x) ≤ heldBack tab u a i m c + (x .periods + 1) * weights tab u a i m
-  unfolding charge heldBack weights restAt
-  charge-ceiling =
+  pub charge-capped : charge (laterOf whole) tab u a i m c (q * period tab i + r) ≤ chargeCap tab u a i m c q
+  unfolding charge chargeCap heldBack modeWeight restAt
+  charge-capped =
       let n = tasks tab i in
       let w = weight tab u a i m in
       let held : ℕ → ℕ = λ j. heldOf tab i c j * w j in
-      let most : ℕ → ℕ = λ j. (x .periods + 1) * w j in
+      let most : ℕ → ℕ = λ j. (q + 1) * w j in
       let each = sum-ext n (λ j l. rival-split j) in
-      let less = sum-le n {f = λ j. held j + (wholePeriods whole (x .periods) * w j + restAt whole x tab u a i m c j)} {g = λ j. held j + most j} (λ j l. omega (arith, split-le whole (x .periods) (x .period) (x .rest) (phaseOf tab i c j) (w j))) in
-      let turned = sum-ext n {f = most} {g = λ j. w j * (x .periods + 1)} (λ j l. mul-comm (x .periods + 1) (w j)) in
-      omega (arith, each, less, sum-add n held most, turned, sum-mul n w (x .periods + 1), mul-comm (sum n w) (x .periods + 1))
+      let less = sum-le n {f = λ j. held j + (wholePeriods whole q * w j + restAt whole tab u a i m c q r j)} {g = λ j. held j + most j} (λ j l. omega (arith, split-le whole q (period tab i) r (phaseOf tab i c j) (w j))) in
+      let turned = sum-ext n {f = most} {g = λ j. w j * (q + 1)} (λ j l. mul-comm (q + 1) (w j)) in
+      omega (arith, each, less, sum-add n held most, turned, sum-mul n w (q + 1), mul-comm (sum n w) (q + 1))

@@ -6,16 +6,16 @@ use native.Mathlib.Omega.{arith}
 use Rattle.table.specs.Table.{modes}
 use Rattle.analysis.specs.Choice.{most}
 use Rattle.answers.specs.Work.{tableAt}
-use Rattle.answers.specs.Weight.{weights}
-use Rattle.answers.proofs.Ranges.{most-next}
-use Rattle.answers.proofs.links.most_weights.Statement.{statement}
-use Rattle.answers.proofs.links.most_weights.Tie as tie
+use Rattle.charge.specs.Weight.{modeWeight}
+use Rattle.charge.proofs.Ranges.{most-next}
+use Rattle.answers.proofs.links.most_mode_weight.Statement.{statement}
+use Rattle.answers.proofs.links.most_mode_weight.Tie as tie
 
 abbrev Inv-loop : tie.InvT-loop
-Inv-loop row s i count best₀ m₀ best m = (m ≤ count) × (best ≡ most m (weights (tableAt row) (s .u) (s .a) i))
+Inv-loop work s i count best₀ m₀ best m = (m ≤ count) × (best ≡ most m (modeWeight (tableAt work) (s .u) (s .a) i))
 
 abbrev μ-loop : tie.MeasureT-loop
-μ-loop row s i count best₀ m₀ best m = count - m
+μ-loop work s i count best₀ m₀ best m = count - m
 
 modes-requires : tie.Need-modes-requires Inv-loop μ-loop
 modes-requires c κs = (c .pre .0 .holds, c .pre .1 .1)
@@ -24,8 +24,8 @@ loop-holds : tie.Need-loop-holds Inv-loop μ-loop
 unfolding most
 loop-holds c = (omega arith, refl)
 
-load-requires : tie.Need-load-requires Inv-loop μ-loop
-load-requires c κs =
+mode-weight-requires : tie.Need-mode-weight-requires Inv-loop μ-loop
+mode-weight-requires c κs =
     let pre = c .before .before .before .pre in
     (pre .0, (pre .1 .0, (pre .1 .1, omega arith)))
 
@@ -44,19 +44,19 @@ loop-again c = (omega arith, rw most-next (cc))
 returns : tie.Need-returns Inv-loop μ-loop
 returns c =
     let s = c .before .before .before in
-    let tab = tableAt (s .args .row .now) in
+    let tab = tableAt (s .args .work .now) in
     let all : c .before .loop .m ≡ modes tab (s .args .i) = omega (arith, c .before .before .modes .ensures) in
-    c .before .loop .inv .1 ∙ ap (λ (n : ℕ). most n (weights tab (s .args .s .u) (s .args .s .a) (s .args .i))) all
+    c .before .loop .inv .1 ∙ ap (λ (n : ℕ). most n (modeWeight tab (s .args .s .u) (s .args .s .a) (s .args .i))) all
 
-pub most-weights-spec : {M : Type 1} → statement M
-most-weights-spec =
+pub most-mode-weight-spec : {M : Type 1} → statement M
+most-mode-weight-spec =
     tie.close
     (tie.spec
     Inv-loop
     μ-loop
     modes-requires
     loop-holds
-    load-requires
+    mode-weight-requires
     greater-requires
     add-m
     loop-less

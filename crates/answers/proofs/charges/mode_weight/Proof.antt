@@ -2,9 +2,9 @@
 use borrow.Author.Needs.{needs}
 use mathlib.Core.Path.{_∙_}
 use native.Mathlib.Omega.{arith}
-use Rattle.answers.proofs.Ranges.{modes-few}
-use Rattle.answers.proofs.charges.load.Statement.{statement}
-use Rattle.answers.proofs.charges.load.Tie as tie
+use Rattle.charge.proofs.Ranges.{modes-few}
+use Rattle.answers.proofs.charges.mode_weight.Statement.{statement}
+use Rattle.answers.proofs.charges.mode_weight.Tie as tie
 
 mul-wide : tie.Need-mul-wide
 mul-wide c = search needs
@@ -33,9 +33,9 @@ wide-requires c κs = search needs
 returns : tie.Need-returns
 returns c =
     let s = c .before .before in
-    c .wide .ensures ∙ s .pre .1 .0 .load (s .args .i) (s .args .m) (s .pre .1 .1 .0) (s .pre .1 .1 .1)
+    c .wide .ensures ∙ s .pre .1 .0 .modeWeight (s .args .i) (s .args .m) (s .pre .1 .1 .0) (s .pre .1 .1 .1)
 
-pub load-spec : {M : Type 1} → statement M
-load-spec =
+pub mode-weight-spec : {M : Type 1} → statement M
+mode-weight-spec =
     tie.close
     (tie.spec mul-wide add-wide add-wide-2 mul-wide-2 element-copy-out-wide wide-requires returns)

@@ -1,26 +1,27 @@
--- The loop has linked the rows of the tasks from number k on, and `next` is the next row from there. Assumes nothing.
+-- The loop has linked the rows of the tasks from number k on, and `next` is the next work from there. Assumes nothing.
 use mathlib.Core.Path.{_≡_, subst, sym, ap}
 use Prim.Native.Nat.{ℕ, _+_, _-_, _*_, _≤_}
 use native.Mathlib.Omega.{arith}
 use Rattle.table.specs.Table.{Table}
 use Rattle.table.specs.Limits.{modesMost, tasksInAll}
 use Rattle.table.specs.Number.{inAll}
-use Rattle.answers.specs.Links.{NextRow}
-use Rattle.answers.specs.Work.{rowsCell, tableAt, Lent, Weighs}
+use Rattle.charge.specs.Links.{NextSetting}
+use Rattle.answers.specs.Work.{settingsCell, tableAt, Lent, Weighs}
 use Rattle.answers.specs.Parts.{SameTo, LinkedFrom}
 use Rattle.answers.proofs.Filling.{same-refl, same-trans}
-use Rattle.answers.proofs.Linking.{weighs-same, row-end, linked-none}
-use Rattle.answers.proofs.links.link_rows.Statement.{statement}
-use Rattle.answers.proofs.links.link_rows.Tie as tie
+use Rattle.answers.proofs.Linking.{weighs-same, linked-none}
+use Rattle.charge.proofs.Links.{setting-end}
+use Rattle.answers.proofs.links.link_settings.Statement.{statement}
+use Rattle.answers.proofs.links.link_settings.Tie as tie
 
 abbrev Inv-loop : tie.InvT-loop
-Inv-loop row₀ s k₀ next₀ row k next =
+Inv-loop row₀ s k₀ next₀ work k next =
     (k ≤ k₀)
-    × (SameTo rowsCell row₀ row
-    × (LinkedFrom (tableAt row₀) (s .u) (s .a) k row × NextRow (tableAt row₀) (s .u) (s .a) (modesMost * k) next))
+    × (SameTo settingsCell row₀ work
+    × (LinkedFrom (tableAt row₀) (s .u) (s .a) k work × NextSetting (tableAt row₀) (s .u) (s .a) (modesMost * k) next))
 
 abbrev μ-loop : tie.MeasureT-loop
-μ-loop row₀ s k₀ next₀ row k next = k
+μ-loop row₀ s k₀ next₀ work k next = k
 
 in-all-requires : tie.Need-in-all-requires Inv-loop μ-loop
 in-all-requires c κs = c .before .pre .0 .holds
@@ -38,15 +39,15 @@ loop-holds : tie.Need-loop-holds Inv-loop μ-loop
 loop-holds c =
     let x = c .before .before in
     let s = x .args .s in
-    let row = x .args .row .now in
-    let tab = tableAt row in
+    let work = x .args .work .now in
+    let tab = tableAt work in
     let all = sym (c .in-all .ensures) in (
       omega arith,
       (
-        same-refl rowsCell row,
+        same-refl settingsCell work,
         (
-          subst (λ (k : ℕ). LinkedFrom tab (s .u) (s .a) k row) all (linked-none tab (s .u) (s .a) row),
-          subst (λ (k : ℕ). NextRow tab (s .u) (s .a) (modesMost * k) (modesMost * k)) all (row-end (x .pre .0 .holds .kept) (s .u) (s .a)),
+          subst (λ (k : ℕ). LinkedFrom tab (s .u) (s .a) k work) all (linked-none tab (s .u) (s .a) work),
+          subst (λ (k : ℕ). NextSetting tab (s .u) (s .a) (modesMost * k) (modesMost * k)) all (setting-end (x .pre .0 .holds .kept) (s .u) (s .a)),
         ),
       ),
     )
@@ -54,15 +55,15 @@ loop-holds c =
 sub-k : tie.Need-sub-k Inv-loop μ-loop
 sub-k c = omega arith
 
--- the row of a turn
+-- the cells of a round
 present :
     (l : tie.At-loop Inv-loop μ-loop)
-    → Lent (l .loop .row)
-    × (Weighs (l .loop .row) (l .before .before .before .args .s)
-    × (tableAt (l .loop .row) ≡ tableAt (l .before .before .before .args .row .now)))
+    → Lent (l .loop .work)
+    × (Weighs (l .loop .work) (l .before .before .before .args .s)
+    × (tableAt (l .loop .work) ≡ tableAt (l .before .before .before .args .work .now)))
 present l =
     let x = l .before .before .before in
-    weighs-same (x .pre .0) (x .pre .1) (l .loop .row) (l .loop .inv .1 .0)
+    weighs-same (x .pre .0) (x .pre .1) (l .loop .work) (l .loop .inv .1 .0)
 
 link-task-requires : tie.Need-link-task-requires Inv-loop μ-loop
 link-task-requires c κs =
@@ -77,10 +78,10 @@ link-task-requires c κs =
         (
           omega (arith, l .before .in-all .ensures, ap inAll e),
           (
-            subst (λ (t : Table). NextRow t (s .u) (s .a) (modesMost * (l .loop .k - 1 + 1)) (l .loop .next)) (sym e)
-                (subst (λ (k : ℕ). NextRow (tableAt (l .before .before .before .args .row .now)) (s .u) (s .a) (modesMost * k) (l .loop .next)) back next),
-            subst (λ (t : Table). LinkedFrom t (s .u) (s .a) (l .loop .k - 1 + 1) (l .loop .row)) (sym e)
-                (subst (λ (k : ℕ). LinkedFrom (tableAt (l .before .before .before .args .row .now)) (s .u) (s .a) k (l .loop .row)) back done),
+            subst (λ (t : Table). NextSetting t (s .u) (s .a) (modesMost * (l .loop .k - 1 + 1)) (l .loop .next)) (sym e)
+                (subst (λ (k : ℕ). NextSetting (tableAt (l .before .before .before .args .work .now)) (s .u) (s .a) (modesMost * k) (l .loop .next)) back next),
+            subst (λ (t : Table). LinkedFrom t (s .u) (s .a) (l .loop .k - 1 + 1) (l .loop .work)) (sym e)
+                (subst (λ (k : ℕ). LinkedFrom (tableAt (l .before .before .before .args .work .now)) (s .u) (s .a) k (l .loop .work)) back done),
           ),
         ),
       ),
@@ -100,7 +101,7 @@ loop-again c =
         same-trans (l .loop .inv .1 .0) same,
         (
           subst (λ (t : Table). LinkedFrom t (s .u) (s .a) (l .loop .k - 1) (c .link-task .last .0)) e done,
-          subst (λ (t : Table). NextRow t (s .u) (s .a) (modesMost * (l .loop .k - 1)) (c .link-task .result)) e next,
+          subst (λ (t : Table). NextSetting t (s .u) (s .a) (modesMost * (l .loop .k - 1)) (c .link-task .result)) e next,
         ),
       ),
     )
@@ -110,12 +111,12 @@ returns c =
     let l = c .before in
     let x = l .before .before .before .args in
     let none : l .loop .k ≡ 0 = omega (arith, c .loop-test .left) in (
-      subst (λ (k : ℕ). LinkedFrom (tableAt (x .row .now)) (x .s .u) (x .s .a) k (l .loop .row)) none (l .loop .inv .1 .1 .0),
+      subst (λ (k : ℕ). LinkedFrom (tableAt (x .work .now)) (x .s .u) (x .s .a) k (l .loop .work)) none (l .loop .inv .1 .1 .0),
       l .loop .inv .1 .0,
     )
 
-pub link-rows-spec : {M : Type 1} → statement M
-link-rows-spec =
+pub link-settings-spec : {M : Type 1} → statement M
+link-settings-spec =
     tie.close
     (tie.spec
     Inv-loop

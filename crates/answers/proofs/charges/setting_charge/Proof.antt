@@ -1,9 +1,9 @@
--- A row whose ceiling is not above the best is not greater. Assumes nothing.
+-- A work whose ceiling is not above the best is not greater. Assumes nothing.
 use borrow.Author.Needs.{needs}
 use native.Mathlib.Omega.{arith}
-use Rattle.answers.proofs.Split.{charge-ceiling}
-use Rattle.answers.proofs.charges.row_charge.Statement.{statement}
-use Rattle.answers.proofs.charges.row_charge.Tie as tie
+use Rattle.answers.proofs.Readings.{charge-at-most}
+use Rattle.answers.proofs.charges.setting_charge.Statement.{statement}
+use Rattle.answers.proofs.charges.setting_charge.Tie as tie
 
 few-charge-requires : tie.Need-few-charge-requires
 few-charge-requires c κs =
@@ -16,8 +16,8 @@ greater-requires c κs = search needs
 returns : tie.Need-returns
 returns c = search needs
 
-ceiling-requires : tie.Need-ceiling-requires
-ceiling-requires c κs = search needs
+charge-cap-requires : tie.Need-charge-cap-requires
+charge-cap-requires c κs = search needs
 
 returns-2 : tie.Need-returns-2
 returns-2 c =
@@ -25,8 +25,8 @@ returns-2 c =
     let (lent, (subject, (isTask, (mode, split)))) = s .pre in
     omega (
       arith,
-      c .before .ceiling .ensures,
-      charge-ceiling (lent .holds .kept) (s .args .whole) split (s .args .s .u) (s .args .s .a) (s .args .m) (s .args .c),
+      c .before .charge-cap .ensures,
+      charge-at-most (lent .holds .kept) split (s .args .whole) (s .args .s .u) (s .args .s .a) (s .args .m) (s .args .c),
     )
 
 charge-requires : tie.Need-charge-requires
@@ -38,14 +38,14 @@ greater-requires-2 c κs = search needs
 returns-3 : tie.Need-returns-3
 returns-3 c = search needs
 
-pub row-charge-spec : {M : Type 1} → statement M
-row-charge-spec =
+pub setting-charge-spec : {M : Type 1} → statement M
+setting-charge-spec =
     tie.close
     (tie.spec
     few-charge-requires
     greater-requires
     returns
-    ceiling-requires
+    charge-cap-requires
     returns-2
     charge-requires
     greater-requires-2

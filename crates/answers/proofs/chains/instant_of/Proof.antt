@@ -1,11 +1,11 @@
--- `chains::turn_of` meets its contract: each number of the turn is what its callee reads off the row.
+-- `chains::instant_of` meets its contract: each number of the instant is what its callee reads.
 use borrow.Author.Needs.{needs}
 use mathlib.Core.Path.{refl}
 use native.Mathlib.Omega.{arith}
 use Rattle.analysis.specs.Bound.{firstJob}
-use Rattle.answers.proofs.Ranges.{held-of-lt}
-use Rattle.answers.proofs.chains.turn_of.Statement.{statement}
-use Rattle.answers.proofs.chains.turn_of.Tie as tie
+use Rattle.charge.proofs.Ranges.{held-of-lt}
+use Rattle.answers.proofs.chains.instant_of.Statement.{statement}
+use Rattle.answers.proofs.chains.instant_of.Tie as tie
 
 period-requires : tie.Need-period-requires
 period-requires c κs = search needs
@@ -46,8 +46,8 @@ returns c =
       first = rw (← c .before .held-of .ensures) (c .first-job .ensures);
     }
 
-pub turn-of-spec : {M : Type 1} → statement M
-turn-of-spec =
+pub instant-of-spec : {M : Type 1} → statement M
+instant-of-spec =
     tie.close
     (tie.spec
     period-requires

@@ -11,7 +11,7 @@ use Rattle.analysis.specs.Choice.{when}
 use Rattle.analysis.specs.Rival.{urgent?, runs?}
 use Rattle.analysis.specs.Overload.{load, countsBy, mostLoad}
 use Rattle.analysis.proofs.Choice.{when-le, most-le}
-use Rattle.answers.proofs.Ranges.{sum-most, sum-room, tasks-few, time-lt}
+use Rattle.charge.proofs.Ranges.{sum-most, sum-room, tasks-few, time-lt}
 
 -- ---- what the loops add up or compare: the time of an urgent task, the load of a mode that counts, what a transaction
 -- demands in one major frame

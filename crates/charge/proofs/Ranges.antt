@@ -18,7 +18,7 @@ use native.Mathlib.Numerals.{add-one}
 use native.Mathlib.Decide.{decLt, ℕ-discrete}
 use native.Mathlib.Omega.{arith}
 use Rattle.table.specs.Sum.{sum}
-use Rattle.table.specs.Limits.{transactionsMost, modesMost, tasksMost}
+use Rattle.table.specs.Limits.{horizon, transactionsMost, modesMost, tasksMost}
 use Rattle.table.specs.Table.{Table, IsTask, transactions, period, modes, tasks, task, offset, jitter, time}
 use Rattle.table.specs.Kept.{Kept}
 use Rattle.periods.specs.Phase.{held}
@@ -29,8 +29,7 @@ use Rattle.analysis.specs.Rival.{rival?}
 use Rattle.analysis.specs.Charge.{phaseOf, heldOf, taskCharge, charge, greatest, rivals}
 use Rattle.analysis.proofs.Choice.{when-le, most-le}
 use Rattle.analysis.proofs.Charges.{kept-period}
-use Rattle.answers.specs.Lent.{longest}
-use Rattle.answers.specs.Quantity.{laterOf}
+use Rattle.charge.specs.Later.{laterOf}
 
 -- ---- sums and greatest as a loop makes them
 
@@ -142,7 +141,7 @@ module _ {tab : Table} (kept : Kept tab) where
     held-charge-le =
         mul-le-mul {n₂ = 2 ^ 25} {m₂ = 2 ^ 24} (omega (arith, held-of-lt kept isTask c)) (omega (arith, time-lt kept isTask mode))
 
-    task-charge-le : (whole : Bool) {t : ℕ} → t ≤ longest → taskCharge (laterOf whole) tab i m c t j ≤ taskMost
+    task-charge-le : (whole : Bool) {t : ℕ} → t ≤ horizon → taskCharge (laterOf whole) tab i m c t j ≤ taskMost
     unfolding taskCharge
     task-charge-le whole {t} short =
         omega (
@@ -152,7 +151,7 @@ module _ {tab : Table} (kept : Kept tab) where
           mul-le-mul {n₁ = t} {m₁ = time tab i m j} {n₂ = 2 ^ 24} {m₂ = 2 ^ 24} (omega arith) (omega (arith, time-lt kept isTask mode)),
         )
 
-  module _ (whole : Bool) {t : ℕ} (short : t ≤ longest) (u a : ℕ) where
+  module _ (whole : Bool) {t : ℕ} (short : t ≤ horizon) (u a : ℕ) where
     module _ {i m : ℕ} (h : i < transactions tab) (mode : m < modes tab i) (c : ℕ) where
       rival-charge-le : (j : ℕ) → j < tasks tab i → rivalCharge whole tab u a i m c t j ≤ taskMost
       rival-charge-le j l =
