@@ -18,16 +18,21 @@ extern "C" {
    0.
 
    The caller owes: `image` points to `length` bytes that do not change during the call. It is never NULL, also where
-   `length` is 0. Any bytes, any task number and any budget are allowed. */
+   `length` is 0. Any bytes, any task number and any budget are allowed.
+
+   The call keeps nothing between calls and has no globals, so threads may call it at the same time. It always returns;
+   its time grows with the evaluations that it makes, at most `budget`, and with what one of them costs. */
 uint64_t sumpcandle_response(const uint8_t *image, size_t length, uint32_t task, uint32_t budget);
 
-/* Codes: the image is good and has that task. */
+/* Codes: the image is good and has that task. With a bound, every job of the task has finished when that many ticks have
+   passed since its event, in every legal run. That a run is late is never said: a bound may be above what any run
+   shows. */
 enum {
-    SUMPCANDLE_IN_TIME = 0,       /* bounded, and the bound keeps the deadline */
-    SUMPCANDLE_LATE = 20,         /* bounded, and the bound is above the deadline */
-    SUMPCANDLE_OVERLOAD = 21,     /* the task and its rivals demand more than the major frame */
-    SUMPCANDLE_PAST_HORIZON = 22, /* busy for longer than 16,777,215 ticks */
-    SUMPCANDLE_BUDGET_SPENT = 23  /* one more evaluation was due */
+    SUMPCANDLE_IN_TIME = 0,       /* bounded, and the bound keeps the deadline: every job does */
+    SUMPCANDLE_LATE = 20,         /* bounded, and the bound is above the deadline: not shown to keep it */
+    SUMPCANDLE_OVERLOAD = 21,     /* no bound: the task and its rivals may demand more than the major frame */
+    SUMPCANDLE_PAST_HORIZON = 22, /* no bound: no busy time up to 16,777,215 ticks was found to end */
+    SUMPCANDLE_BUDGET_SPENT = 23  /* not decided: one more evaluation was due */
 };
 
 /* Refusals: the first fault of the image, or no such task. */
@@ -52,10 +57,10 @@ static inline uint32_t sumpcandle_number(uint64_t answer) { return (uint32_t)(an
 /* The lower half of an answer: a bound or a place. */
 static inline uint32_t sumpcandle_value(uint64_t answer) { return (uint32_t)answer; }
 
-/* Whether an answer has a code, and not a refusal. */
+/* Whether an answer has a code, and not a refusal: 0 or 20 to 23. */
 static inline int sumpcandle_is_code(uint64_t answer) {
     uint32_t number = sumpcandle_number(answer);
-    return number == SUMPCANDLE_IN_TIME || number >= SUMPCANDLE_LATE;
+    return number == SUMPCANDLE_IN_TIME || (SUMPCANDLE_LATE <= number && number <= SUMPCANDLE_BUDGET_SPENT);
 }
 
 #ifdef __cplusplus

@@ -7,7 +7,7 @@ use Prim.Native.Nat.{ℕ, zero, suc, _+_, _-_, _*_, _≤_, _<_}
 use native.Mathlib.Nat.{add-le-add, le-refl, le-trans, mul-le-mul-right, add-mul, one-le-mul}
 use native.Mathlib.Decide.{ℕ-discrete}
 use native.Mathlib.Omega.{arith}
-use Rattle.table.specs.Table.{Table, IsTask, transactions, period, modes, tasks, offset, jitter, blocking, time}
+use Rattle.table.specs.Table.{Table, IsTask, transactions, period, modes, tasks, offset, jitter, time}
 use Rattle.table.specs.Kept.{Kept}
 use Rattle.table.proofs.Sum.{sum-le, sum-term}
 use Rattle.periods.specs.Phase.{ceil, phase, held}
@@ -16,11 +16,11 @@ use Rattle.periods.proofs.Phase.{self-held}
 use Rattle.periods.proofs.Charge.{rel, imposed-is, released-is, imp-mono, rel-mono, imp≤rel, ceil-mono, ceil-gt}
 use Rattle.analysis.specs.Choice.{when}
 use Rattle.analysis.specs.Rival.{rival?, Candidate}
-use Rattle.analysis.specs.Charge.{Later, phaseOf, heldOf, taskCharge, charge, greatest, rivals}
-use Rattle.analysis.specs.Bound.{lastJob, jobsTo, demand, busy, Setting}
+use Rattle.analysis.specs.Charge.{Later, phaseOf, heldOf, taskCharge, charge, greatest, others}
+use Rattle.analysis.specs.Bound.{lastJob, jobsTo, own, demand, busy, Setting}
 use Rattle.analysis.specs.Needed.{job, start}
 use Rattle.analysis.proofs.Choice.{when-yes, when-mono, unless-mono, most-mono}
-use Rattle.analysis.proofs.Join.{jobs-to-job, jobs-by, busy-jobs}
+use Rattle.analysis.proofs.Join.{jobs-to-job, jobs-by, own-by}
 
 pub kept-period : {tab : Table} {i : ℕ} → Kept tab → i < transactions tab → 0 < period tab i
 unfolding period
@@ -60,20 +60,23 @@ module _ {tab : Table} (kept : Kept tab) {early late : Later} {s t : ℕ} (grows
   greatest-grows u a i h =
       most-mono (modes tab i) (λ m l. most-mono (tasks tab i) (λ c k. when-mono (rival? tab u a i m c) (λ r. charge-grows u a i m c h)))
 
-  rivals-grows : {u a : ℕ} → IsTask tab u a → (m c : ℕ) → rivals early tab u a m c s ≤ rivals late tab u a m c t
-  unfolding rivals
-  rivals-grows {u} {a} isTask m c =
-      add-le-add (charge-grows u a u m c (isTask .owner))
-      (sum-le (transactions tab) (λ i l. unless-mono (ℕ-discrete i u) (λ n. greatest-grows u a i l)))
+  others-grows : (u a : ℕ) → others early tab u a s ≤ others late tab u a t
+  unfolding others
+  others-grows u a =
+      sum-le (transactions tab) (λ i l. unless-mono (ℕ-discrete i u) (λ n. greatest-grows u a i l))
+
+  own-grows : {u a : ℕ} → IsTask tab u a → (m c : ℕ) (p : ℤ) → own early tab u a m c p s ≤ own late tab u a m c p t
+  unfolding own
+  own-grows {u} {a} isTask m c p = add-le-add (le-refl _) (charge-grows u a u m c (isTask .owner))
 
   pub demand-grows : {u a : ℕ} → IsTask tab u a → (m c : ℕ) (p : ℤ) → demand early tab u a m c p s ≤ demand late tab u a m c p t
   unfolding demand
-  demand-grows isTask m c p = add-le-add (le-refl _) (rivals-grows isTask m c)
+  demand-grows {u} {a} isTask m c p = omega (arith, own-grows isTask m c p, others-grows u a)
 
 module _ {tab : Table} (kept : Kept tab) {u a : ℕ} (isTask : IsTask tab u a) where
   -- what a chain of a job starts with is in every value of it
   pub start-below : (later : Later) (m c : ℕ) (p : ℤ) (t : ℕ) → start tab u a m c p ≤ demand later tab u a m c p t
-  unfolding start demand
+  unfolding start demand own
   start-below later m c p t = omega arith
 
   jobs-rise : (c : ℕ) {s t : ℕ} → s ≤ t → jobsTo tab u a c (lastJob tab u a c s) ≤ jobsTo tab u a c (lastJob tab u a c t)
@@ -83,7 +86,7 @@ module _ {tab : Table} (kept : Kept tab) {u a : ℕ} (isTask : IsTask tab u a) w
 
   -- more jobs demand more
   demand-jobs : (later : Later) (m c : ℕ) (p q : ℤ) (t : ℕ) → jobsTo tab u a c p ≤ jobsTo tab u a c q → demand later tab u a m c p t ≤ demand later tab u a m c q t
-  unfolding demand
+  unfolding demand own
   demand-jobs later m c p q t l =
       omega (arith, mul-le-mul-right (time tab u m a) l)
 
@@ -128,10 +131,10 @@ unfolding taskCharge rel
 self-charge tab i m c t h r l =
     rw (released-is (period tab i) (time tab i m c) t (phaseOf tab i c c), ← (add-mul (heldOf tab i c c) (ceil (t - phaseOf tab i c c) (period tab i)) (time tab i m c))) (one-le-mul (self-jobs tab i c t h l) r)
 
--- So the busy length's demand is at least 1, whether the candidate is a itself or a rival
-pub busy-some : {tab : Table} {u a m c t : ℕ} → Kept tab → IsTask tab u a → Setting tab u a m c → 1 ≤ t → 1 ≤ busy tab u a m c t
-unfolding rivals charge
-busy-some {tab} {u} {a} {m} {c} {t} kept isTask h l = rw (busy-jobs tab u a m c t T) (go (h .candidate))
+-- So what u charges by t ≥ 1 is at least 1, whether the candidate is a itself or a rival
+own-some : {tab : Table} {u a m c t : ℕ} → Kept tab → IsTask tab u a → Setting tab u a m c → 1 ≤ t → 1 ≤ own released tab u a m c (lastJob tab u a c t) t
+unfolding charge
+own-some {tab} {u} {a} {m} {c} {t} kept isTask h l = rw (own-by released tab u a m c t T) (go (h .candidate))
   where
     T : 0 < period tab u
     T = kept-period kept (isTask .owner)
@@ -139,10 +142,15 @@ busy-some {tab} {u} {a} {m} {c} {t} kept isTask h l = rw (busy-jobs tab u a m c 
     jobs : ℕ
     jobs = heldOf tab u c a + ceil (t - phaseOf tab u c a) (period tab u)
 
-    go : Candidate tab u a m c → 1 ≤ blocking tab u a + jobs * time tab u m a + rivals released tab u a m c t
+    go : Candidate tab u a m c → 1 ≤ jobs * time tab u m a + charge released tab u a u m c t
     go (inl e) =
-        let own : 1 ≤ jobs = subst (λ (x : ℕ). 1 ≤ heldOf tab u c x + ceil (t - phaseOf tab u c x) (period tab u)) e (self-jobs tab u c t T l) in
-        omega (arith, one-le-mul own (h .runs))
+        let some : 1 ≤ jobs = subst (λ (x : ℕ). 1 ≤ heldOf tab u c x + ceil (t - phaseOf tab u c x) (period tab u)) e (self-jobs tab u c t T l) in
+        omega (arith, one-le-mul some (h .runs))
     go (inr r) =
         let term = sum-term (tasks tab u) (λ j. when (rival? tab u a u m j) (taskCharge released tab u m c t j)) c (h .place) in
         omega (arith, self-charge tab u m c t T (r .runs) l, when-yes (rival? tab u a u m c) (taskCharge released tab u m c t c) r, term)
+
+-- and so is the busy length's demand
+pub busy-some : {tab : Table} {u a m c t : ℕ} → Kept tab → IsTask tab u a → Setting tab u a m c → 1 ≤ t → 1 ≤ busy tab u a m c t
+unfolding busy demand
+busy-some kept isTask h l = omega (arith, own-some kept isTask h l)

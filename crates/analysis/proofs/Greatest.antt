@@ -93,7 +93,7 @@ module _ {later : Later} (fair : Fair later) {tab : Table} (kept : Kept tab) {u 
       first : ℕ
       first = count (response tab u a c (job tab u a c N) w)
 
-      Is : ℕ → ℕ → Type 0
+      Is : (e f : ℕ) → Type 0
       Is e f = (i : ℕ) × (w : ℕ) × (i < f) × Completion later tab u a m c (job tab u a c i) w × (count (response tab u a c (job tab u a c i) w) ≡ e)
 
       go : Dec (b ≤ first) → (1 ≤ b → Is b (suc N + todo)) → Is (max first b) (N + suc todo)

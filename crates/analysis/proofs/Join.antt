@@ -1,29 +1,32 @@
 -- The signed counts of jobs as natural numbers: p0 + N is job N counted from the first, so suc N jobs go up to it, and by
--- t there are the jobs held back and those after the instant. With them, demands and busy lengths without signs.
+-- t there are the jobs held back and those after the instant. With them, what u charges without signs.
 use mathlib.Core.Path.{_≡_, refl, ap}
-use lib.IntN.{pos, negsuc, negℤ, _+ℤ_, _-ℤ_, +ℤ-comm, +ℤ-assoc, negℤ-+ℤ, negℤ-negℤ, +ℤ-negℤ-cancel, -ℤ-+ℤ-cancel}
+use lib.IntN.{ℤ, pos, negsuc, negℤ, _+ℤ_, _-ℤ_, +ℤ-comm, +ℤ-assoc, negℤ-+ℤ, negℤ-negℤ, +ℤ-negℤ-cancel, -ℤ-+ℤ-cancel}
 use Prim.Native.Nat.{ℕ, suc, _+_, _-_, _*_, _<_}
 use native.Mathlib.Nat.{add-comm}
 use native.Mathlib.Omega.{arith}
-use Rattle.table.specs.Table.{Table, period, blocking, time}
+use Rattle.table.specs.Table.{Table, period, time}
 use Rattle.periods.specs.Phase.{ceil}
-use Rattle.periods.specs.Charge.{released}
 use Rattle.periods.proofs.Phase.{phase-lt}
 use Rattle.periods.proofs.Charge.{ceiling-is}
 use Rattle.analysis.specs.Choice.{count}
-use Rattle.analysis.specs.Charge.{Later, phaseOf, heldOf, rivals}
-use Rattle.analysis.specs.Bound.{firstJob, lastJob, jobsTo, demand, busy}
-use Rattle.analysis.specs.Needed.{job}
+use Rattle.analysis.specs.Charge.{Later, phaseOf, heldOf, charge, rivals}
+use Rattle.analysis.specs.Bound.{firstJob, lastJob, jobsTo, own, demand}
+use Rattle.analysis.specs.Needed.{job, start}
 
--- up to job p0 + N there are suc N jobs
+-- up to job p0 + N there are suc N jobs: p − p0 + 1 is not negative, so that no count of them is clamped
+pub signed-to-job : (tab : Table) (u a c N : ℕ) → job tab u a c N -ℤ firstJob tab u a c +ℤ pos 1 ≡ pos (suc N)
+unfolding job
+signed-to-job tab u a c N =
+    rw (+ℤ-comm (firstJob tab u a c) (pos N), +ℤ-negℤ-cancel (pos N) (firstJob tab u a c)) (ap pos (omega arith))
+
 pub jobs-to-job : (tab : Table) (u a c N : ℕ) → jobsTo tab u a c (job tab u a c N) ≡ suc N
-unfolding jobsTo job count
-jobs-to-job tab u a c N =
-    rw (+ℤ-comm (firstJob tab u a c) (pos N), +ℤ-negℤ-cancel (pos N) (firstJob tab u a c)) (omega arith)
+unfolding jobsTo count
+jobs-to-job tab u a c N = ap count (signed-to-job tab u a c N)
 
-pub demand-job : (later : Later) (tab : Table) (u a m c N t : ℕ) → demand later tab u a m c (job tab u a c N) t ≡ blocking tab u a + suc N * time tab u m a + rivals later tab u a m c t
-unfolding demand
-demand-job later tab u a m c N t = rw (jobs-to-job tab u a c N) refl
+pub own-job : (later : Later) (tab : Table) (u a m c N t : ℕ) → own later tab u a m c (job tab u a c N) t ≡ suc N * time tab u m a + charge later tab u a u m c t
+unfolding own
+own-job later tab u a m c N t = rw (jobs-to-job tab u a c N) refl
 
 -- q − (1 − h) + 1 = h + q
 from-first : (h q : ℕ) → pos q -ℤ (pos 1 -ℤ pos h) +ℤ pos 1 ≡ pos (h + q)
@@ -37,17 +40,23 @@ from-first h q =
     )
     (ap pos (add-comm q h))
 
--- the jobs by t: those held back to the instant, and those after it
-pub jobs-by : (tab : Table) (u a c t : ℕ) → 0 < period tab u → jobsTo tab u a c (lastJob tab u a c t) ≡ heldOf tab u c a + ceil (t - phaseOf tab u c a) (period tab u)
-unfolding jobsTo lastJob firstJob count phaseOf
-jobs-by tab u a c t h =
+-- the jobs by t, those held back to the instant and those after it: p − p0 + 1 is not negative here either
+pub signed-by : (tab : Table) (u a c t : ℕ) → 0 < period tab u → lastJob tab u a c t -ℤ firstJob tab u a c +ℤ pos 1 ≡ pos (heldOf tab u c a + ceil (t - phaseOf tab u c a) (period tab u))
+unfolding lastJob firstJob phaseOf
+signed-by tab u a c t h =
     let small : phaseOf tab u c a < period tab u = phase-lt h _ _ in
-    rw (
-      ceiling-is (period tab u) t (phaseOf tab u c a) (omega arith),
-      from-first (heldOf tab u c a) (ceil (t - phaseOf tab u c a) (period tab u)),
-    )
-    refl
+    rw (ceiling-is (period tab u) t (phaseOf tab u c a) (omega arith))
+    (from-first (heldOf tab u c a) (ceil (t - phaseOf tab u c a) (period tab u)))
 
-pub busy-jobs : (tab : Table) (u a m c t : ℕ) → 0 < period tab u → busy tab u a m c t ≡ blocking tab u a + (heldOf tab u c a + ceil (t - phaseOf tab u c a) (period tab u)) * time tab u m a + rivals released tab u a m c t
-unfolding busy demand
-busy-jobs tab u a m c t h = rw (jobs-by tab u a c t h) refl
+pub jobs-by : (tab : Table) (u a c t : ℕ) → 0 < period tab u → jobsTo tab u a c (lastJob tab u a c t) ≡ heldOf tab u c a + ceil (t - phaseOf tab u c a) (period tab u)
+unfolding jobsTo count
+jobs-by tab u a c t h = ap count (signed-by tab u a c t h)
+
+pub own-by : (later : Later) (tab : Table) (u a m c t : ℕ) → 0 < period tab u → own later tab u a m c (lastJob tab u a c t) t ≡ (heldOf tab u c a + ceil (t - phaseOf tab u c a) (period tab u)) * time tab u m a + charge later tab u a u m c t
+unfolding own
+own-by later tab u a m c t h = rw (jobs-by tab u a c t h) refl
+
+-- The demand of job p is what its chain starts with, and the rivals' charges
+pub demand-rivals : (later : Later) (tab : Table) (u a m c : ℕ) (p : ℤ) (t : ℕ) → demand later tab u a m c p t ≡ start tab u a m c p + rivals later tab u a m c t
+unfolding demand own start rivals
+demand-rivals later tab u a m c p t = omega arith

@@ -13,11 +13,11 @@ use Rattle.periods.specs.Phase.{held}
 use Rattle.periods.specs.Charge.{imposed}
 use Rattle.periods.proofs.Phase.{self-held}
 use Rattle.analysis.specs.Charge.{Later, phaseOf, heldOf}
-use Rattle.analysis.specs.Bound.{lastJob, jobsTo, BusyLength, Completion, response, Setting, Response, Within, Bound}
+use Rattle.analysis.specs.Bound.{lastJob, jobsTo, demand, BusyLength, Completion, response, Setting, Response, Within, Bound}
 use Rattle.analysis.specs.Needed.{job}
 use Rattle.analysis.proofs.Choice.{least-unique}
 use Rattle.analysis.proofs.Bounds.{CandidateBound, Bounds}
-use Rattle.analysis.proofs.Join.{demand-job, jobs-by}
+use Rattle.analysis.proofs.Join.{own-job, jobs-by}
 use Rattle.analysis.proofs.Signed.{Minus, minus-pos, le-minus, response-minus, job-range, range-job}
 use Rattle.analysis.proofs.Charges.{Fair, kept-period, imposed-fair, self-jobs}
 use Rattle.analysis.proofs.Turn.{job-completion, queued-completes, completion-within}
@@ -69,7 +69,7 @@ module _ {tab : Table} (kept : Kept tab) {u a : ℕ} (isTask : IsTask tab u a) w
     -- Its first job is queued and has a response of at least 1: its jitter and phase together are whole periods, so that
     -- the response is w + J + O, and w is not 0
     own-response : {m L : ℕ} → Setting tab u a m a → BusyLength tab u a m a L → (w : ℕ) × Queued later tab u a m a L 0 w (response tab u a a (job tab u a a 0) w) × (1 + phaseOf tab u a a ≤ w + heldOf tab u a a * period tab u + offset tab u a)
-    unfolding heldOf phaseOf
+    unfolding heldOf phaseOf demand
     own-response {m} {L} setting length =
         let by : 0 < jobsTo tab u a a (lastJob tab u a a L) = rw (jobs-by tab u a a L T) (self-jobs tab u a L T (length .has .0)) in
         let z = queued-completes kept isTask fair m a length 0 by in
@@ -77,7 +77,7 @@ module _ {tab : Table} (kept : Kept tab) {u a : ℕ} (isTask : IsTask tab u a) w
         let whole = self-held T (offset tab u a) (jitter tab u a) in (
           z .w,
           record { by = by; completion = done; is = refl },
-          omega (arith, done .has, demand-job later tab u a m a 0 (z .w), setting .runs),
+          omega (arith, done .has, own-job later tab u a m a 0 (z .w), setting .runs),
         )
 
     -- so whatever no response exceeds is at least 1

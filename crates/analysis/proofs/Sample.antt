@@ -10,20 +10,18 @@ use Rattle.table.specs.Sample.{S, lone, plain}
 use Rattle.table.proofs.Kept.{S-kept}
 use Rattle.periods.specs.Charge.{imposed, released}
 use Rattle.analysis.specs.Rival.{Rival}
-use Rattle.analysis.specs.Bound.{Setting, Bound, BusyLength, Completion, demand, busy}
+use Rattle.analysis.specs.Bound.{Setting, Bound, Tight, BusyLength, Completion, demand, busy}
 use Rattle.analysis.specs.Overload.{Overload}
 use Rattle.analysis.specs.Chain.{Chain, came, back, on}
 use Rattle.analysis.specs.Needed.{Beyond, Never, job, start, JobChains, one, Needed, bounded, turn}
 use Rattle.analysis.specs.Order.{walkOrder}
 use Rattle.analysis.specs.Answer.{bound, spent, Answers}
-use Rattle.analysis.specs.Promise.{Safe, Tight}
 use Rattle.analysis.specs.Computing.{computing}
 use Rattle.analysis.proofs.Chain.{chain-same}
 use Rattle.analysis.proofs.Turn.{busy-length, job-completion}
 use Rattle.analysis.proofs.Charges.{imposed-fair, released-fair}
 use Rattle.analysis.proofs.Response.{bound-unique}
 use Rattle.analysis.proofs.Answer.{answers, answers-unique, answer-bound, needed-unique}
-use Rattle.analysis.proofs.Demand.{bound-safe}
 
 pub isTask-2 : IsTask S 1 0
 unfolding computing
@@ -131,11 +129,6 @@ whole-bound-2 = answer-bound S-kept isTask-2 released-fair 6 refl
 
 not-bound-4 : ¬ (Bound imposed S 1 0 4)
 not-bound-4 b = omega (arith, bound-unique S-kept isTask-2 bound-2 b)
-
--- ---- demand 3
-
-safe-5 : Safe S 1 0 5
-safe-5 = bound-safe S-kept isTask-2 bound-2
 
 tight-5 : Tight S 1 0 5
 tight-5 = record { whole = 7; isBound = whole-bound-2; tight = lit≤ tt }

@@ -16,10 +16,10 @@ use Rattle.analysis.proofs.Chain.{Ends, chain-ends, came-fixed, came-le
 use Rattle.analysis.proofs.Charges.{Fair, demand-grows, start-below, busy-rises, job-below-busy, busy-some}
 
 -- the chain for L, and that of job p where it comes back at w
-abbrev pub LengthChain : Table → ℕ → ℕ → ℕ → ℕ → ℕ → End → Type 0
+abbrev pub LengthChain : Table → (u a m c n : ℕ) → End → Type 0
 LengthChain tab u a m c n e = Chain (busy tab u a m c) Beyond 1 n e
 
-abbrev pub JobChain : Later → Table → ℕ → ℕ → ℕ → ℕ → ℤ → ℕ → ℕ → Type 0
+abbrev pub JobChain : Later → Table → (u a m c : ℕ) (p : ℤ) (n w : ℕ) → Type 0
 JobChain later tab u a m c p n w = Chain (demand later tab u a m c p) Never (start tab u a m c p) n (came w)
 
 pub record Completes (later : Later) (tab : Table) (u a m c : ℕ) (p : ℤ) : Type 0 where

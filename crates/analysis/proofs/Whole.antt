@@ -7,9 +7,8 @@ use mathlib.Core.Path.{refl}
 use Rattle.table.specs.Table.{Table, IsTask}
 use Rattle.table.specs.Kept.{Kept}
 use Rattle.periods.specs.Charge.{imposed, released}
-use Rattle.analysis.specs.Bound.{response, Bound}
+use Rattle.analysis.specs.Bound.{response, Bound, Tight}
 use Rattle.analysis.specs.Needed.{job}
-use Rattle.analysis.specs.Promise.{Tight}
 use Rattle.analysis.proofs.Signed.{minus-pos, le-minus}
 use Rattle.analysis.proofs.Charges.{imposed-fair, released-fair, demand-grows}
 use Rattle.analysis.proofs.Turn.{job-completion, queued-completes, completion-below}

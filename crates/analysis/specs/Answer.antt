@@ -25,7 +25,7 @@ codeBy (yes h) = 0
 codeBy (no h) = 20
 
 -- The cells of a task with deadline D
-unfoldable pub cells : ℕ → Answer → Cells
+unfoldable pub cells : (D : ℕ) → Answer → Cells
 cells D (bound R n) = record { code = codeBy (decLe R D); bound = R; evaluations = n }
 cells D overload = record { code = 21; bound = 0; evaluations = 0 }
 cells D (beyond n) = record { code = 22; bound = 0; evaluations = n }

@@ -1,72 +1,13 @@
--- The definitions computed at small tables, each of which tells a right definition from a wrong one.
+-- Answers computed at small tables, each of which tells a right definition from a wrong one. Smaller cases stand under the
+-- definitions themselves.
 use mathlib.Core.Path.{_≡_, refl}
-use mathlib.Core.List.{[], _∷_, map}
-use lib.IntN.{pos, negsuc}
+use mathlib.Core.List.{[], _∷_}
 use Rattle.table.specs.Table.{Table}
 use Rattle.table.specs.Sample.{S, lone, plain, task, transaction, table}
 use Rattle.periods.specs.Charge.{imposed, released}
-use Rattle.analysis.specs.Charge.{phaseOf, heldOf, charge, greatest, rivals}
-use Rattle.analysis.specs.Bound.{firstJob, lastJob, demand, busy, response}
-use Rattle.analysis.specs.Overload.{frameDemand}
-use Rattle.analysis.specs.Order.{walkOrder}
-use Rattle.analysis.specs.Needed.{job, start}
 use Rattle.analysis.specs.Answer.{bound, overload, beyond, spent, cells}
 use Rattle.analysis.specs.Walk.{answer}
 use Rattle.analysis.specs.Computing.{computing}
-
--- ---- interference in S, for task 2 (transaction 1, place 0)
-
--- tasks 0 and 1 seen from task 0, and from task 1
-S-phases : phaseOf S 0 0 0 ∷ phaseOf S 0 0 1 ∷ phaseOf S 0 1 0 ∷ phaseOf S 0 1 1 ∷ [] ≡ 0 ∷ 4 ∷ 16 ∷ 0 ∷ []
-unfolding computing
-S-phases = refl
-
--- at t = 5 task 0 as candidate charges 2 + 1 imposed, 2 + 3 released; task 1 charges 3
-S-charges : charge imposed S 1 0 0 0 0 5 ∷ charge released S 1 0 0 0 0 5 ∷ charge imposed S 1 0 0 0 1 5 ∷ [] ≡ 3 ∷ 5 ∷ 3 ∷ []
-unfolding computing
-S-charges = refl
-
-S-greatest : greatest imposed S 1 0 0 5 ∷ greatest released S 1 0 0 5 ∷ rivals imposed S 1 0 0 0 5 ∷ [] ≡ 3 ∷ 5 ∷ 3 ∷ []
-unfolding computing
-S-greatest = refl
-
--- a transaction without rivals charges 0: task 0 has none in transaction 1
-no-rivals : greatest released S 0 0 1 10 ≡ 0
-unfolding computing
-no-rivals = refl
-
--- ---- jobs, demand and response: one task, T 10, C 2, J 12
-
-queued : Table
-queued = lone 10 (task 0 12 0 20 1 (2 ∷ []))
-
--- phase 8, held back twice, first job −1, and by t = 4 the last is 0
-queue : phaseOf queued 0 0 0 ∷ heldOf queued 0 0 0 ∷ [] ≡ 8 ∷ 2 ∷ []
-unfolding computing queued
-queue = refl
-
-job-numbers : firstJob queued 0 0 0 ∷ job queued 0 0 0 1 ∷ lastJob queued 0 0 0 4 ∷ lastJob queued 0 0 0 9 ∷ [] ≡ negsuc 0 ∷ pos 0 ∷ pos 0 ∷ pos 1 ∷ []
-unfolding computing queued
-job-numbers = refl
-
--- two jobs keep it busy for 4 ticks; the first completes at 2
-demands : busy queued 0 0 0 0 1 ∷ busy queued 0 0 0 0 4 ∷ demand imposed queued 0 0 0 0 (negsuc 0) 2 ∷ start queued 0 0 0 0 (pos 0) ∷ [] ≡ 4 ∷ 4 ∷ 2 ∷ 4 ∷ []
-unfolding computing queued
-demands = refl
-
-responses : response queued 0 0 0 (negsuc 0) 2 ∷ response queued 0 0 0 (pos 0) 4 ∷ [] ≡ pos 14 ∷ pos 6 ∷ []
-unfolding computing queued
-responses = refl
-
--- ---- overload: S in task 2's eyes, and in task 0's
-
-S-demand : map (frameDemand S 1) (0 ∷ []) ≡ 7 ∷ []
-unfolding computing
-S-demand = refl
-
-S-demand-of-0 : frameDemand S 0 0 ∷ frameDemand S 0 1 ∷ [] ≡ 2 ∷ 5 ∷ []
-unfolding computing
-S-demand-of-0 = refl
 
 -- ---- answers
 
@@ -98,11 +39,6 @@ second-job = refl
 other-mode : answer imposed (table 2 (transaction 2 2 (task 0 0 0 20 2 (0 ∷ 1 ∷ []) ∷ []) ∷ transaction 2 1 (plain 1 1 2 20 ∷ []) ∷ [])) 1 0 100 ≡ bound 3 4
 unfolding computing
 other-mode = refl
-
--- the other transaction's second mode charges more than its first
-greater-mode : answer imposed (table 5 (transaction 5 2 (task 1 0 0 20 1 (1 ∷ 2 ∷ []) ∷ []) ∷ transaction 5 1 (plain 0 1 1 20 ∷ []) ∷ [])) 1 0 100 ≡ bound 3 5
-unfolding computing
-greater-mode = refl
 
 -- a task of equal priority is a rival, a less urgent one is not
 equals : Table
@@ -138,18 +74,10 @@ idle-candidate : answer imposed idle-mode 0 0 100 ≡ bound 1 2
 unfolding computing idle-mode
 idle-candidate = refl
 
-idle-order : walkOrder idle-mode 0 0 ≡ record { mode = 1; candidate = 0 } ∷ []
-unfolding computing idle-mode
-idle-order = refl
-
-pair-order : walkOrder pair 0 0 ≡ record { mode = 0; candidate = 0 } ∷ record { mode = 0; candidate = 1 } ∷ []
-unfolding computing pair
-pair-order = refl
-
--- of u only the modes where a runs count for overload
-own-modes : answer imposed (table 2 (transaction 2 2 (task 0 0 0 20 1 (1 ∷ 0 ∷ []) ∷ task 0 0 0 20 1 (0 ∷ 3 ∷ []) ∷ []) ∷ [])) 0 0 100 ≡ bound 1 2
+-- L may be the horizon itself; one tick more is past it
+horizon : answer imposed (lone 16_777_215 (plain 0 16_777_215 1 20)) 0 0 100 ∷ answer imposed (lone 16_777_215 (task 0 0 1 20 1 (16_777_215 ∷ []))) 0 0 100 ∷ [] ≡ bound 16_777_215 3 ∷ beyond 1 ∷ []
 unfolding computing
-own-modes = refl
+horizon = refl
 
 -- ---- budget: 6 evaluations are enough for task 2 of S, 5 are not; none is needed for an overload
 

@@ -13,7 +13,7 @@ unless (yes a) x = 0
 unless (no h) x = x
 
 -- the greatest of f 0, .., f (n − 1), or 0
-unfoldable pub most : ℕ → (ℕ → ℕ) → ℕ
+unfoldable pub most : (n : ℕ) (f : ℕ → ℕ) → ℕ
 most zero f = 0
 most (suc n) f = max (most n f) (f n)
 

@@ -1,13 +1,8 @@
 -- One name that opens every definition on the way to a task's answer, so that what is stated of a given table computes.
-use native.Mathlib.Decide.{decLe, decLt, ℕ-discrete}
-use Rattle.table.specs.Computing.{computing as tables}
-use Rattle.periods.specs.Phase.{remainder, ceil, ceiling, phase, held}
-use Rattle.periods.specs.Charge.{imposed, released}
-use Rattle.analysis.specs.Choice.{when, unless, most, count}
-use Rattle.analysis.specs.Rival.{urgent?, runs?, rival?, candidate?}
-use Rattle.analysis.specs.Charge.{phaseOf, heldOf, taskCharge, charge, greatest, rivals}
-use Rattle.analysis.specs.Bound.{firstJob, lastJob, jobsTo, demand, busy, response}
-use Rattle.analysis.specs.Overload.{load, mostLoad, frameDemand, overload?}
+use native.Mathlib.Decide.{decLt}
+use Rattle.analysis.specs.Rival.{candidate?}
+use Rattle.analysis.specs.Bound.{bounding}
+use Rattle.analysis.specs.Overload.{load, counts?, mostLoad, frameDemand, overload?}
 use Rattle.analysis.specs.Order.{from, runningModes, candidates, turns, walkOrder}
 use Rattle.analysis.specs.Needed.{job, start}
 use Rattle.analysis.specs.Answer.{codeBy, cells}
@@ -22,5 +17,5 @@ use Rattle.analysis.specs.Walk.{
 }
 
 unfoldable pub computing : Unit {0}
-unfolding tables decLe decLt ℕ-discrete remainder ceil ceiling phase held imposed released when unless most count urgent? runs? rival? candidate? phaseOf heldOf taskCharge charge greatest rivals firstJob lastJob jobsTo demand busy response load mostLoad frameDemand overload? from runningModes candidates turns walkOrder job start codeBy cells chain walkJobs walkTurn walkTurns answerOf answerBy answer
+unfolding bounding decLt candidate? load counts? mostLoad frameDemand overload? from runningModes candidates turns walkOrder job start codeBy cells chain walkJobs walkTurn walkTurns answerOf answerBy answer
 computing = tt

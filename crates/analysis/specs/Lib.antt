@@ -8,9 +8,5 @@ pub mod Order
 pub mod Needed
 pub mod Answer
 pub mod Walk
-pub mod Run
-pub mod Legal
-pub mod Promise
 pub mod Computing
 pub mod Cases
-pub mod Choices

@@ -1,11 +1,15 @@
 -- The order of the walk: modes of u where a has C > 0, ascending, and in each the candidates in image order.
+use mathlib.Core.Path.{_≡_, refl}
 use mathlib.Core.List.{List, [], _∷_, _++_, map, filter}
 use Prim.Native.Nat.{ℕ, zero, suc}
+use native.Mathlib.Decide.{decLe, ℕ-discrete}
 use Rattle.table.specs.Table.{Table, modes, tasks}
-use Rattle.analysis.specs.Rival.{runs?, candidate?}
+use Rattle.table.specs.Sample.{plain, task, transaction, table}
+use Rattle.table.specs.Computing.{computing as tables}
+use Rattle.analysis.specs.Rival.{urgent?, runs?, rival?, candidate?}
 
 -- k, k + 1, .., k + n − 1
-unfoldable pub from : ℕ → ℕ → List ℕ
+unfoldable pub from : (k n : ℕ) → List ℕ
 from k zero = []
 from k (suc n) = k ∷ from (suc k) n
 
@@ -14,16 +18,26 @@ pub record Turn : Type 0 where
   pub mode : ℕ
   pub candidate : ℕ
 
-unfoldable pub runningModes : Table → ℕ → ℕ → List ℕ
+unfoldable pub runningModes : Table → (u a : ℕ) → List ℕ
 runningModes tab u a = filter (λ m. runs? tab u m a) (from 0 (modes tab u))
 
-unfoldable pub candidates : Table → ℕ → ℕ → ℕ → List ℕ
+unfoldable pub candidates : Table → (u a m : ℕ) → List ℕ
 candidates tab u a m = filter (candidate? tab u a m) (from 0 (tasks tab u))
 
 -- the turns of these modes
-unfoldable pub turns : Table → ℕ → ℕ → List ℕ → List Turn
+unfoldable pub turns : Table → (u a : ℕ) (ms : List ℕ) → List Turn
 turns tab u a [] = []
 turns tab u a (m ∷ ms) = map (λ c. record { mode = m; candidate = c }) (candidates tab u a m) ++ turns tab u a ms
 
-unfoldable pub walkOrder : Table → ℕ → ℕ → List Turn
+unfoldable pub walkOrder : Table → (u a : ℕ) → List Turn
 walkOrder tab u a = turns tab u a (runningModes tab u a)
+
+-- task 0 and its rival as candidates, in image order
+pair-order : walkOrder (table 4 (transaction 4 1 (plain 1 1 2 20 ∷ plain 0 2 2 20 ∷ []) ∷ [])) 0 0 ≡ record { mode = 0; candidate = 0 } ∷ record { mode = 0; candidate = 1 } ∷ []
+unfolding tables decLe ℕ-discrete urgent? runs? rival? candidate? from runningModes candidates turns walkOrder
+pair-order = refl
+
+-- task 0 runs in mode 1 only, and the other, with C = 0 there, is no candidate
+idle-order : walkOrder (table 2 (transaction 2 2 (task 0 0 0 20 2 (0 ∷ 1 ∷ []) ∷ task 0 0 0 20 2 (1 ∷ 0 ∷ []) ∷ []) ∷ [])) 0 0 ≡ record { mode = 1; candidate = 0 } ∷ []
+unfolding tables decLe ℕ-discrete urgent? runs? rival? candidate? from runningModes candidates turns walkOrder
+idle-order = refl

@@ -6,11 +6,11 @@ use native.Mathlib.Decide.{decLe, ℕ-discrete}
 use Rattle.table.specs.Table.{Table, priority, time}
 
 -- priority at least a's
-abbrev pub Urgent : Table → ℕ → ℕ → ℕ → ℕ → Type 0
+abbrev pub Urgent : Table → (u a i j : ℕ) → Type 0
 Urgent tab u a i j = priority tab u a ≤ priority tab i j
 
 -- C > 0 in mode m
-abbrev pub Runs : Table → ℕ → ℕ → ℕ → Type 0
+abbrev pub Runs : Table → (i m j : ℕ) → Type 0
 Runs tab i m j = 0 < time tab i m j
 
 unfoldable pub urgent? : (tab : Table) (u a i j : ℕ) → Dec (Urgent tab u a i j)
@@ -37,7 +37,7 @@ unfoldable pub rival? : (tab : Table) (u a i m j : ℕ) → Dec (Rival tab u a i
 rival? tab u a i m j = rivalBy (urgent? tab u a i j) (runs? tab i m j) (ℕ-discrete i u) (ℕ-discrete j a)
 
 -- A candidate in u: a rival in u or a itself
-abbrev pub Candidate : Table → ℕ → ℕ → ℕ → ℕ → Type 0
+abbrev pub Candidate : Table → (u a m c : ℕ) → Type 0
 Candidate tab u a m c = (c ≡ a) ⊎ Rival tab u a u m c
 
 abbrev pub candidateBy : {tab : Table} {u a m c : ℕ} → Dec (c ≡ a) → Dec (Rival tab u a u m c) → Dec (Candidate tab u a m c)

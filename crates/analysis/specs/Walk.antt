@@ -2,9 +2,8 @@
 -- says; nothing else has to be believed of it.
 use mathlib.Core.List.{List, [], _∷_}
 use Prim.Native.Nat.{ℕ, zero, suc, _-_, max}
-use native.Mathlib.Decide.{decLt, ℕ-discrete}
+use native.Mathlib.Decide.{decLe, ℕ-discrete}
 use Rattle.table.specs.Table.{Table}
-use Rattle.table.specs.Limits.{horizon}
 use Rattle.analysis.specs.Choice.{count}
 use Rattle.analysis.specs.Charge.{Later}
 use Rattle.analysis.specs.Bound.{lastJob, jobsTo, demand, busy, response}
@@ -28,7 +27,7 @@ chain f over? (suc left) t =
     ]
 
 abbrev pub beyond? : (v : ℕ) → Dec (Beyond v)
-beyond? v = decLt horizon v
+beyond? v = decLe _ _
 
 abbrev pub never? : (v : ℕ) → Dec (Never v)
 never? v = no (λ x. x)
@@ -41,7 +40,7 @@ pub data Walked : Type 0 where
   short : Walked
 
 -- the jobs N, N + 1, .. of one turn, `todo` of them; `later` is the charge of later jobs in each completion
-unfoldable pub walkJobs : Later → Table → ℕ → ℕ → ℕ → ℕ → (todo N left best : ℕ) → Walked
+unfoldable pub walkJobs : Later → Table → (u a m c todo N left best : ℕ) → Walked
 walkJobs later tab u a m c zero N left best = through left best
 walkJobs later tab u a m c (suc todo) N left best =
     elim (chain (demand later tab u a m c (job tab u a c N)) never? left (start tab u a m c (job tab u a c N))) [
@@ -52,7 +51,7 @@ walkJobs later tab u a m c (suc todo) N left best =
     ]
 
 -- one turn: the L chain, then the jobs
-unfoldable pub walkTurn : Later → Table → ℕ → ℕ → Turn → (left best : ℕ) → Walked
+unfoldable pub walkTurn : Later → Table → (u a : ℕ) → Turn → (left best : ℕ) → Walked
 walkTurn later tab u a s left best =
     elim (chain (busy tab u a (s .mode) (s .candidate)) beyond? left 1) [
       | ended (came L) l ↦
@@ -65,7 +64,7 @@ walkTurn later tab u a s left best =
       | short ↦ short
     ]
 
-unfoldable pub walkTurns : Later → Table → ℕ → ℕ → List Turn → (left best : ℕ) → Walked
+unfoldable pub walkTurns : Later → Table → (u a : ℕ) → List Turn → (left best : ℕ) → Walked
 walkTurns later tab u a [] left best = through left best
 walkTurns later tab u a (s ∷ rest) left best =
     elim (walkTurn later tab u a s left best) [
@@ -75,7 +74,7 @@ walkTurns later tab u a (s ∷ rest) left best =
     ]
 
 -- the answer of a walk that began with this budget
-unfoldable pub answerOf : ℕ → Walked → Answer
+unfoldable pub answerOf : (budget : ℕ) → Walked → Answer
 answerOf budget (through left best) = bound best (budget - left)
 answerOf budget (past left) = beyond (budget - left)
 answerOf budget short = spent budget
@@ -85,7 +84,7 @@ answerBy (yes h) x = overload
 answerBy (no h) x = x
 
 -- the task's answer
-unfoldable pub answer : Later → Table → ℕ → ℕ → ℕ → Answer
+unfoldable pub answer : Later → Table → (u a budget : ℕ) → Answer
 answer later tab u a budget =
     answerBy (overload? tab u a)
     (answerOf budget (walkTurns later tab u a (walkOrder tab u a) budget 0))

@@ -31,7 +31,7 @@ use Rattle.analysis.proofs.Charges.{imposed-fair}
 use Rattle.analysis.proofs.Response.{bound-most}
 use Rattle.analysis.proofs.Answer.{answers, answers-unique}
 use Rattle.analysis.proofs.Budget.{greater-budget}
-use Rattle.analysis.proofs.Demand.{answer-safe}
+use Rattle.runs.proofs.Demand.{answer-safe}
 use Rattle.answers.specs.declared.answers.TaskCells.{TaskCells}
 use Rattle.answers.specs.Parts.{RowOfTable}
 use Rattle.answers.specs.Answered.{CellsAt, stored}

@@ -12,7 +12,8 @@ use Rattle.format.specs.Fault.{imageFault}
 use Rattle.format.specs.Fault.{IsAccepted}
 use Rattle.format.specs.Said.{tableIn}
 use Rattle.analysis.specs.Answer.{Answer, bound, Cells, cells, Answers}
-use Rattle.analysis.specs.Promise.{Safe, Tight}
+use Rattle.analysis.specs.Bound.{Tight}
+use Rattle.runs.specs.Promise.{Safe}
 use Rattle.answers.specs.declared.Filled.{Filled}
 use Rattle.answers.specs.declared.Filled.the-variants as filled
 

@@ -5,11 +5,10 @@ use super::layout::Work;
 use super::reads;
 ghost use mathlib.Core.Path.{_≡_};
 ghost use Prim.Native.Nat.{_<_, _*_, _/_};
-ghost use native.Mathlib.Decide.{ℕ-discrete};
 ghost use Rattle.table.specs.Table.{IsTask, transactions, period, modes, time};
 ghost use Rattle.analysis.specs.Choice.{when};
-ghost use Rattle.analysis.specs.Rival.{urgent?, runs?};
-ghost use Rattle.analysis.specs.Overload.{load, countsBy, mostLoad, frameDemand, overload?};
+ghost use Rattle.analysis.specs.Rival.{urgent?};
+ghost use Rattle.analysis.specs.Overload.{load, counts?, mostLoad, frameDemand, overload?};
 ghost use Rattle.answers.specs.Lent.{tested};
 ghost use Rattle.answers.specs.Work.{Lent, IsSubject, tableAt};
 
@@ -52,7 +51,7 @@ fn counted_load(work: &[u32; Work::CELLS], s: Subject, i: usize, m: usize) -> u6
     requires { ⌜ IsSubject (now work) s ⌝ }
     requires { ⌜ i < transactions (tableAt (now work)) ⌝ }
     requires { ⌜ m < modes (tableAt (now work)) i ⌝ }
-    ensures { λ r. ⌜ r ≡ when (countsBy (ℕ-discrete i (s .u)) (runs? (tableAt (now (work .entry))) (s .u) m (s .a))) (load (tableAt (now (work .entry))) (s .u) (s .a) i m) ⌝ }
+    ensures { λ r. ⌜ r ≡ when (counts? (tableAt (now (work .entry))) (s .u) (s .a) i m) (load (tableAt (now (work .entry))) (s .u) (s .a) i m) ⌝ }
 {
     if i == s.u {
         if reads::time(work, s.u, m, s.a) == 0 {

@@ -37,13 +37,6 @@ pub fn new<'a>(image: &'a [u8]) -> Reader<'a>
     Reader { image, at: 0 }
 }
 
-// The reader's place, in bits.
-pub fn at<'a>(r: Reader<'a>) -> usize
-    ensures { λ n. ⌜ n ≡ r .entry .at ⌝ }
-{
-    r.at
-}
-
 // The reader at another place of its image.
 pub fn moved<'a>(r: Reader<'a>, at: usize) -> Reader<'a>
     ensures { λ q. ⌜ (q .image ≡ r .entry .image) × (q .at ≡ at) ⌝ }

@@ -1,15 +1,14 @@
 -- Ranges of the loads that overload compares: what the code adds up in one major frame stays far below 2 ^ 64.
 use Prim.Native.Nat.{ℕ, _+_, _*_, _/_, _^_, _≤_, _<_}
 use native.Mathlib.Nat.{le-trans, mul-le-mul, div-le-self}
-use native.Mathlib.Decide.{ℕ-discrete}
 use native.Mathlib.Omega.{arith}
 use Rattle.table.specs.Sum.{sum}
 use Rattle.table.specs.Limits.{transactionsMost, tasksMost, frameMost}
 use Rattle.table.specs.Table.{Table, transactions, period, modes, tasks, time}
 use Rattle.table.specs.Kept.{Kept}
 use Rattle.analysis.specs.Choice.{when}
-use Rattle.analysis.specs.Rival.{urgent?, runs?}
-use Rattle.analysis.specs.Overload.{load, countsBy, mostLoad}
+use Rattle.analysis.specs.Rival.{urgent?}
+use Rattle.analysis.specs.Overload.{load, counts?, mostLoad}
 use Rattle.analysis.proofs.Choice.{when-le, most-le}
 use Rattle.charge.proofs.Ranges.{sum-most, sum-room, tasks-few, time-lt}
 
@@ -20,7 +19,7 @@ abbrev pub urgentTime : Table → (u a i m j : ℕ) → ℕ
 urgentTime tab u a i m j = when (urgent? tab u a i j) (time tab i m j)
 
 abbrev pub countedLoad : Table → (u a i m : ℕ) → ℕ
-countedLoad tab u a i m = when (countsBy (ℕ-discrete i u) (runs? tab u m a)) (load tab u a i m)
+countedLoad tab u a i m = when (counts? tab u a i m) (load tab u a i m)
 
 abbrev pub share : Table → (u a i : ℕ) → ℕ
 share tab u a i = tab .frame / period tab i * mostLoad tab u a i
@@ -50,7 +49,7 @@ module _ {tab : Table} (kept : Kept tab) (u a : ℕ) where
   unfolding mostLoad
   share-le i h =
       mul-le-mul {n₂ = frameMost} {m₂ = loadMost} (omega (arith, div-le-self (tab .frame) (period tab i), kept .frame))
-      (most-le (modes tab i) (λ m l. le-trans (when-le (countsBy (ℕ-discrete i u) (runs? tab u m a)) _) (load-le h l)))
+      (most-le (modes tab i) (λ m l. le-trans (when-le (counts? tab u a i m) _) (load-le h l)))
 
   -- the transactions up to i
   pub demand-room : (i : ℕ) → i < transactions tab → sum i (share tab u a) + share tab u a i ≤ transactionsMost * shareMost

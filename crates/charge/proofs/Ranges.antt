@@ -26,7 +26,7 @@ use Rattle.periods.proofs.Phase.{phase-lt}
 use Rattle.periods.proofs.Charge.{rel, imposed-is, released-is, imp≤rel, ceil-le}
 use Rattle.analysis.specs.Choice.{when, unless, most}
 use Rattle.analysis.specs.Rival.{rival?}
-use Rattle.analysis.specs.Charge.{phaseOf, heldOf, taskCharge, charge, greatest, rivals}
+use Rattle.analysis.specs.Charge.{phaseOf, heldOf, taskCharge, charge, greatest, others, rivals}
 use Rattle.analysis.proofs.Choice.{when-le, most-le}
 use Rattle.analysis.proofs.Charges.{kept-period}
 use Rattle.charge.specs.Later.{laterOf}
@@ -174,6 +174,6 @@ module _ {tab : Table} (kept : Kept tab) where
     others-room i h = omega (arith, sum-room i other-charge-le h, kept .fewTransactions)
 
     pub rivals-lt : {m : ℕ} → u < transactions tab → m < modes tab u → (c : ℕ) → rivals (laterOf whole) tab u a m c t < 2 ^ 60
-    unfolding rivals
+    unfolding rivals others
     rivals-lt h mode c =
         omega (arith, charge-le h mode c, sum-most (transactions tab) other-charge-le, kept .fewTransactions)

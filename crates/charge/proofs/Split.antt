@@ -14,7 +14,7 @@ use Rattle.table.specs.Kept.{Kept}
 use Rattle.table.proofs.Sum.{sum-le, sum-ext, sum-add, sum-mul}
 use Rattle.periods.proofs.Phase.{phase-lt}
 use Rattle.periods.proofs.Charge.{imposed-is, released-is}
-use Rattle.periods.proofs.Split.{rel-passed, rel-waiting, imp-passed, imp-waiting, imp-first}
+use Rattle.periods.proofs.Quotient.{rel-passed, rel-waiting, imp-passed, imp-waiting, imp-first}
 use Rattle.analysis.specs.Choice.{when}
 use Rattle.analysis.specs.Rival.{rival?}
 use Rattle.analysis.specs.Charge.{phaseOf, heldOf, taskCharge, charge}

@@ -16,7 +16,7 @@ use Rattle.row.proofs.Rows.{length-head, length-task}
 
 pub head-cells :
     (first : ℕ) (image : List ℕ) (p : ℕ)
-    → ofTransaction first (transactionIn image p) ≡ periodIn image p ∷ modesIn image p ∷ first ∷ tasksIn image p ∷ []
+    → ofTransaction first (transactionIn image p) ≡ periodIn image p ∷ modesIn image p ∷ first ∷ tasksIn image p ∷ 0 ∷ []
 unfolding ofTransaction transactionIn
 head-cells first image p = rw (length-listOf (tasksIn image p))
 

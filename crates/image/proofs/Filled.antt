@@ -1,16 +1,17 @@
 -- What the fill leaves, group by group, is the row of the table that the image says.
 use mathlib.Core.Path.{_≡_, refl, sym, _∙_}
 use mathlib.Core.List.{List, [], _∷_, _++_}
-use Prim.Native.Nat.{ℕ, _≤_, _<_}
+use Prim.Native.Nat.{ℕ, _*_, _≤_, _<_}
 use native.Mathlib.Omega.{arith}
 use lib.ListN.{length}
 use lib.Seq.{sets}
 use Rattle.table.specs.Table.{Table, transactions, transaction, tasks, task}
+use Rattle.table.specs.Limits.{transactionsMost, tasksInAll}
 use Rattle.table.specs.Number.{before}
 use Rattle.table.specs.Lists.{joined, padded}
 use Rattle.format.specs.Places.{start}
 use Rattle.format.specs.Said.{editionIn, frameIn, countIn, tasksIn, tableIn, tasksBefore}
-use Rattle.row.specs.Row.{headerCells, tasksCell, rowCells, ofTransaction, ofTask, ofHeader, rowOf, emptyRow}
+use Rattle.row.specs.Row.{headerCells, transactionCells, taskCells, tasksCell, rowCells, ofTransaction, ofTask, ofHeader, rowOf, emptyRow}
 use Rattle.image.specs.Fill.{tasksCells, headsIn, ofTasksIn, everyTaskIn}
 use Rattle.format.specs.Fault.{IsAccepted}
 use Rattle.table.proofs.Lists.{joined-same, length-padded, padded-again, sets-padded}
@@ -20,7 +21,7 @@ use Rattle.format.proofs.Said.{said-edition, said-frame, said-transactions, sai
 
 -- a header of zeros
 abbrev blank : List ℕ
-blank = 0 ∷ 0 ∷ 0 ∷ 0 ∷ []
+blank = 0 ∷ 0 ∷ 0 ∷ 0 ∷ 0 ∷ []
 
 blank-row : emptyRow ≡ padded rowCells blank
 unfolding padded
@@ -28,18 +29,18 @@ blank-row = refl
 
 header-last :
     (e f n t : ℕ) (xs ys : List ℕ)
-    → sets (padded rowCells (padded tasksCell (blank ++ xs) ++ ys)) 0 (e ∷ f ∷ n ∷ t ∷ [])
-    ≡ padded rowCells (padded tasksCell ((e ∷ f ∷ n ∷ t ∷ []) ++ xs) ++ ys)
+    → sets (padded rowCells (padded tasksCell (blank ++ xs) ++ ys)) 0 (e ∷ f ∷ n ∷ t ∷ 0 ∷ [])
+    ≡ padded rowCells (padded tasksCell ((e ∷ f ∷ n ∷ t ∷ 0 ∷ []) ++ xs) ++ ys)
 unfolding padded
 header-last e f n t xs ys = refl
 
 -- a row of zeros with transactions and tasks put in, and the header last
 row-filled :
     (e f n t : ℕ) (xs ys : List ℕ)
-    → length xs ≤ 128
-    → length ys ≤ 896
-    → sets (sets (sets emptyRow headerCells xs) tasksCell ys) 0 (e ∷ f ∷ n ∷ t ∷ [])
-    ≡ padded rowCells (padded tasksCell ((e ∷ f ∷ n ∷ t ∷ []) ++ xs) ++ ys)
+    → length xs ≤ transactionsMost * transactionCells
+    → length ys ≤ tasksInAll * taskCells
+    → sets (sets (sets emptyRow headerCells xs) tasksCell ys) 0 (e ∷ f ∷ n ∷ t ∷ 0 ∷ [])
+    ≡ padded rowCells (padded tasksCell ((e ∷ f ∷ n ∷ t ∷ 0 ∷ []) ++ xs) ++ ys)
 row-filled e f n t xs ys short few =
     let front = padded tasksCell (blank ++ xs) in
     let wide : length front ≡ tasksCell = length-padded tasksCell (blank ++ xs) (omega arith) in
@@ -72,20 +73,20 @@ module _ (image : List ℕ) where
   unfolding everyTaskIn
   said-every = rw (said-transactions image) (joined-same (countIn image) _ _ said-tasks-of)
 
-  said-header : ofHeader tab ≡ editionIn image ∷ frameIn image ∷ countIn image ∷ tasksBefore image (countIn image) ∷ []
+  said-header : ofHeader tab ≡ editionIn image ∷ frameIn image ∷ countIn image ∷ tasksBefore image (countIn image) ∷ 0 ∷ []
   unfolding ofHeader
   said-header = cc (said-edition image, said-frame image, said-transactions image, said-in-all image)
 
   pub filled :
       IsAccepted image
       → sets (sets (sets emptyRow headerCells (headsIn image (countIn image))) tasksCell (everyTaskIn image (countIn image))) 0
-      (editionIn image ∷ frameIn image ∷ countIn image ∷ tasksBefore image (countIn image) ∷ [])
+      (editionIn image ∷ frameIn image ∷ countIn image ∷ tasksBefore image (countIn image) ∷ 0 ∷ [])
       ≡ rowOf tab
   unfolding rowOf
   filled ok =
-      let heads : length (headsIn image (countIn image)) ≤ 128 =
+      let heads : length (headsIn image (countIn image)) ≤ transactionsMost * transactionCells =
       rw (length-heads image (countIn image)) (omega (arith, header image ok .few)) in
-      let every : length (everyTaskIn image (countIn image)) ≤ 896 =
+      let every : length (everyTaskIn image (countIn image)) ≤ tasksInAll * taskCells =
       rw (length-every image (countIn image)) (omega (arith, few-tasks image ok)) in
       row-filled (editionIn image) (frameIn image) (countIn image) (tasksBefore image (countIn image))
       (headsIn image (countIn image))

@@ -84,6 +84,7 @@ fn put_head(image: &[u8], at: usize, first: u32, cells: &mut [u32; Table::CELLS]
     cells[cell + Transaction::MODES_CELL] = modes;
     cells[cell + Transaction::FIRST_CELL] = first;
     cells[cell + Transaction::TASKS_CELL] = tasks;
+    cells[cell + Transaction::SPARE_CELL] = 0;
 }
 
 // The tasks of a transaction of so many modes, the first of which starts at a bit position.
@@ -182,4 +183,5 @@ pub(crate) fn fill(image: &[u8], cells: &mut [u32; Table::CELLS])
     cells[Table::FRAME_CELL] = frame;
     cells[Table::COUNT_CELL] = count;
     cells[Table::IN_ALL_CELL] = all;
+    cells[Table::SPARE_CELL] = 0;
 }

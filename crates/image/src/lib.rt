@@ -21,13 +21,10 @@ pub fn read(image: &[u8]) -> Reading
     ensures table { λ r. ⌜ r .table .cells ≡ rowFor (imageFault (now (image .entry))) (now (image .entry)) ⌝ }
 {
     let answer = scan::first_fault(image);
-    let mut cells = [0u32; Table::CELLS];
+    let mut table = Table::empty();
     let sound = answer.is_accepted();
     if sound {
-        fill::fill(image, &mut cells);
+        fill::fill(image, &mut table.cells);
     }
-    Reading {
-        answer,
-        table: Table { cells },
-    }
+    Reading { answer, table }
 }

@@ -12,11 +12,8 @@ pub(crate) fn head_at(image: &[u8], at: usize) -> Transaction
 {
     let modes = bits::value(image, at + Transaction::MODES_AT, Transaction::MODES_WIDTH);
     let tasks = bits::value(image, at + Transaction::TASKS_AT, Transaction::TASKS_WIDTH);
-    Transaction {
-        period: bits::value(image, at, Transaction::PERIOD_WIDTH),
-        modes: modes as usize,
-        tasks: tasks as usize,
-    }
+    let period = bits::value(image, at, Transaction::PERIOD_WIDTH);
+    Transaction::new(period, modes as usize, tasks as usize)
 }
 
 // What the image says of the task that starts at a bit position.
@@ -24,11 +21,11 @@ pub(crate) fn body_at(image: &[u8], at: usize) -> Task
     requires { ⌜ at < 2 ^ 32 ⌝ }
     ensures { λ r. ⌜ r ≡ bodyAt (now (image .entry)) at ⌝ }
 {
-    Task {
-        offset: bits::value(image, at, Task::OFFSET_WIDTH),
-        jitter: bits::value(image, at + Task::JITTER_AT, Task::JITTER_WIDTH),
-        blocking: bits::value(image, at + Task::BLOCKING_AT, Task::BLOCKING_WIDTH),
-        deadline: bits::value(image, at + Task::DEADLINE_AT, Task::DEADLINE_WIDTH),
-        priority: bits::value(image, at + Task::PRIORITY_AT, Task::PRIORITY_WIDTH),
-    }
+    Task::new(
+        bits::value(image, at, Task::OFFSET_WIDTH),
+        bits::value(image, at + Task::JITTER_AT, Task::JITTER_WIDTH),
+        bits::value(image, at + Task::BLOCKING_AT, Task::BLOCKING_WIDTH),
+        bits::value(image, at + Task::DEADLINE_AT, Task::DEADLINE_WIDTH),
+        bits::value(image, at + Task::PRIORITY_AT, Task::PRIORITY_WIDTH),
+    )
 }

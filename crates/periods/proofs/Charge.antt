@@ -10,10 +10,10 @@ use Rattle.periods.specs.Phase.{ceil, ceiling}
 use Rattle.periods.specs.Charge.{imposed, released}
 use Rattle.periods.proofs.Difference.{Diff, sub-diff}
 
-unfoldable pub imp : ℕ → ℕ → ℕ → ℕ
+unfoldable pub imp : (T C s : ℕ) → ℕ
 imp T C s = s / T * C + min (s % T) C
 
-unfoldable pub rel : ℕ → ℕ → ℕ → ℕ
+unfoldable pub rel : (T C s : ℕ) → ℕ
 rel T C s = ceil s T * C
 
 -- nothing is charged at s = 0

@@ -7,7 +7,7 @@ use Prim.Native.Nat.{ℕ, zero, suc, _+_, _-_, _≤_, _<_}
 use native.Mathlib.Omega.{arith}
 
 -- z = a − b
-abbrev pub Diff : ℤ → ℕ → ℕ → Type 0
+abbrev pub Diff : (z : ℤ) (a b : ℕ) → Type 0
 Diff (pos n) a b = n + b ≡ a
 Diff (negsuc n) a b = suc n + a ≡ b
 

@@ -3,4 +3,4 @@ pub mod Congruence
 pub mod Phase
 pub mod Charge
 pub mod Slide
-pub mod Split
+pub mod Quotient

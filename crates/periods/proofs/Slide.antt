@@ -10,7 +10,7 @@ use Rattle.periods.specs.Phase.{phase, held}
 use Rattle.periods.proofs.Phase.{phase-spec, phase-unique, slide-back, slide-wrap}
 
 -- The phase falls from φ to φ′ and no job is lost, or it wraps and one job more is held back
-abbrev pub Slid : ℕ → ℕ → ℕ → ℕ → Type 0
+abbrev pub Slid : (T J φ φ′ : ℕ) → Type 0
 Slid T J φ φ′ = ((φ′ ≤ φ) × (held T J φ ≤ held T J φ′)) ⊎ ((φ′ ≤ φ + T) × (held T J φ < held T J φ′))
 
 module _ {T : ℕ} (h : 0 < T) where

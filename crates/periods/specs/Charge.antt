@@ -7,7 +7,7 @@ use Prim.Native.Nat.{ℕ, _+_, _*_, _/_, _%_, min}
 use Rattle.periods.specs.Phase.{ceil}
 
 -- floor(s/T)·C + min(s mod T, C)
-unfoldable pub imposed : ℕ → ℕ → ℤ → ℕ
+unfoldable pub imposed : (T C : ℕ) (s : ℤ) → ℕ
 imposed T C (pos s) = s / T * C + min (s % T) C
 imposed T C (negsuc n) = 0
 
@@ -17,7 +17,7 @@ unfolding imposed
 imposed-at = refl
 
 -- ceil(s/T)·C
-unfoldable pub released : ℕ → ℕ → ℤ → ℕ
+unfoldable pub released : (T C : ℕ) (s : ℤ) → ℕ
 released T C (pos s) = ceil s T * C
 released T C (negsuc n) = 0
 

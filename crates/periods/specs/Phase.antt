@@ -5,7 +5,7 @@ use lib.IntN.{ℤ, pos, negsuc, negℤ, _-ℤ_}
 use Prim.Native.Nat.{ℕ, suc, _+_, _-_, _/_, _%_}
 
 -- z mod T, in 0..T−1: −12 by 10 is 8
-unfoldable pub remainder : ℤ → ℕ → ℕ
+unfoldable pub remainder : (z : ℤ) (T : ℕ) → ℕ
 remainder (pos n) T = n % T
 remainder (negsuc n) T = T - suc (n % T)
 
@@ -14,11 +14,11 @@ unfolding remainder
 minus-twelve = refl
 
 -- s / T, rounded up
-unfoldable pub ceil : ℕ → ℕ → ℕ
+unfoldable pub ceil : (s T : ℕ) → ℕ
 ceil s T = (s + (T - 1)) / T
 
 -- the same for a signed number: −12 by 10 is −1
-unfoldable pub ceiling : ℤ → ℕ → ℤ
+unfoldable pub ceiling : (z : ℤ) (T : ℕ) → ℤ
 ceiling (pos n) T = pos (ceil n T)
 ceiling (negsuc n) T = negℤ (pos (suc n / T))
 
@@ -27,7 +27,7 @@ unfolding ceiling ceil
 ceilings = refl
 
 -- Phase of a task with offset O, when the critical instant is set by a candidate with offset plus jitter y: (O − y) mod T
-unfoldable pub phase : ℕ → ℕ → ℕ → ℕ
+unfoldable pub phase : (T O y : ℕ) → ℕ
 phase T O y = remainder (pos O -ℤ pos y) T
 
 -- T 20, J 0, offsets 0 and 9: each seen from the other
@@ -36,7 +36,7 @@ unfolding phase remainder
 phases = refl
 
 -- Jobs held back to the instant: floor((J + phase) / T)
-unfoldable pub held : ℕ → ℕ → ℕ → ℕ
+unfoldable pub held : (T J phase : ℕ) → ℕ
 held T J phase = (J + phase) / T
 
 -- T 10: held-back count of the candidate itself for J = 0, 3, 10, 11

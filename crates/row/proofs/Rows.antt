@@ -1,7 +1,7 @@
 -- The row of a table that keeps its bounds holds that table, and numbers its tasks.
 use mathlib.Core.Path.{_≡_, refl, sym, ap, _∙_}
 use mathlib.Core.List.{List, [], _∷_, _++_}
-use Prim.Native.Nat.{ℕ, zero, suc, _+_, _*_, _<_}
+use Prim.Native.Nat.{ℕ, zero, suc, _+_, _*_, _≤_, _<_}
 use native.Mathlib.Nat.{add-assoc, add-mul}
 use native.Mathlib.Omega.{arith}
 use lib.ListN.{length, getD, length-append, List·getD-append}
@@ -12,7 +12,8 @@ use Rattle.table.specs.Number.{before, inAll, number}
 use Rattle.table.specs.Limits.{modesMost}
 use Rattle.table.specs.Kept.{KeptTask, Kept}
 use Rattle.table.specs.Lists.{listOf, joined, padded}
-use Rattle.row.specs.Row.{headerCells, transactionCells, taskCells, tasksCell, rowCells, editionCell, frameCell, countCell, inAllCell, transactionCell, periodCell, modesCell, firstCell, hasCell, taskCell, ownerCell, timesCell, ofTransaction, ofTask, ofHeader, rowOf, taskOf, transactionOf, tableOf}
+use Rattle.row.specs.Row.{headerCells, transactionCells, taskCells, tasksCell, rowCells, editionCell, frameCell, countCell, inAllCell, transactionCell, periodCell, modesCell, firstCell, hasCell, taskCell, ownerCell, timesCell, ofTransaction, ofTask, ofHeader, rowOf, taskOf, tasksBefore, transactionOf, tableOf}
+use Rattle.table.proofs.Sum.{sum-ext}
 use Rattle.table.proofs.Lists.{length-listOf, getD-listOf, length-joined, getD-joined, length-padded, getD-padded}
 
 -- the cells of a transaction, and of a task, are as many as its part of the row has
@@ -179,6 +180,11 @@ module _ (tab : Table) where
         listed (tasks tab u) _ (transaction tab u .tasks) noTask refl
         (λ j within. same-task u j (record { owner = below; place = within }))
 
+    -- the counts in the row say how many tasks stand before a transaction
+    row-before : (u : ℕ) → u ≤ transactions tab → tasksBefore (rowOf tab) u ≡ before tab u
+    unfolding tasksBefore before tasks ofTransaction
+    row-before u h = sum-ext u (λ v below. row-head v hasCell (omega arith) (omega arith))
+
     same-transaction : (u : ℕ) → u < transactions tab → transactionOf (rowOf tab) u ≡ transaction tab u
     unfolding transactionOf ofTransaction tasks
     same-transaction u below =
@@ -187,10 +193,9 @@ module _ (tab : Table) where
         let modes : getD row (cell + modesCell) 0 ≡ transaction tab u .modes = row-head u modesCell below (omega arith) in
         let count : getD row (cell + hasCell) 0 ≡ tasks tab u = row-head u hasCell below (omega arith) in
         let listed-tasks :
-        listOf (getD row (cell + hasCell) 0)
-        (λ j. taskOf row (getD row (cell + modesCell) 0) (getD row (cell + firstCell) 0 + j))
+        listOf (getD row (cell + hasCell) 0) (λ j. taskOf row (getD row (cell + modesCell) 0) (tasksBefore row u + j))
         ≡ transaction tab u .tasks =
-        rw (count, modes, row-first u below) (same-tasks u below) in
+        rw (count, modes, row-before u (omega arith)) (same-tasks u below) in
         λ i.
         record {
           period = row-head u periodCell below (omega arith) i;

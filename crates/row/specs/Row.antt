@@ -1,14 +1,18 @@
--- A table as one flat row of numbers, the layout in which it is lent: a header, four cells for each transaction that
--- there may be, and fourteen for each task. What lies beyond a table's counts is 0.
+-- A table as one flat row of numbers, the layout in which it is lent: a header, five cells for each transaction that there
+-- may be, and fourteen for each task. The last cell of the header and of a transaction is spare. What lies beyond a
+-- table's counts is 0, and so is what is spare.
+use mathlib.Core.Path.{_≡_}
 use mathlib.Core.List.{List, [], _∷_, _++_}
 use mathlib.Core.Bool.{cond}
 use Prim.Native.Nat.{ℕ, _+_, _*_}
-use lib.ListN.{length, getD}
+use lib.ListN.{length, getD, take}
 use lib.Dec.{ltb}
+use Rattle.table.specs.Sum.{sum}
+use Rattle.table.specs.Lists.{listOf, joined, padded}
 use Rattle.table.specs.Table.{Task, Transaction, Table, transactions, transaction, tasks, task}
 use Rattle.table.specs.Number.{before, inAll}
 use Rattle.table.specs.Limits.{transactionsMost, modesMost, tasksInAll}
-use Rattle.table.specs.Lists.{listOf, joined, padded}
+use Rattle.table.specs.Kept.{Kept}
 
 -- how many cells a header, a transaction and a task have; the times of a task are its last
 
@@ -16,10 +20,10 @@ abbrev pub timesCell : ℕ
 timesCell = 6
 
 abbrev pub headerCells : ℕ
-headerCells = 4
+headerCells = 5
 
 abbrev pub transactionCells : ℕ
-transactionCells = 4
+transactionCells = 5
 
 abbrev pub taskCells : ℕ
 taskCells = timesCell + modesMost
@@ -88,7 +92,7 @@ ownerCell = 5
 -- what stands in the cells of a transaction whose first task has the number `first`, and of a task of transaction u
 
 unfoldable pub ofTransaction : ℕ → Transaction → List ℕ
-ofTransaction first x = x .period ∷ x .modes ∷ first ∷ length (x .tasks) ∷ []
+ofTransaction first x = x .period ∷ x .modes ∷ first ∷ length (x .tasks) ∷ 0 ∷ []
 
 unfoldable pub ofTask : ℕ → Task → List ℕ
 ofTask u t =
@@ -101,7 +105,7 @@ ofTask u t =
     ∷ listOf modesMost (λ m. getD (t .times) m 0)
 
 unfoldable pub ofHeader : Table → List ℕ
-ofHeader tab = tab .edition ∷ tab .frame ∷ transactions tab ∷ inAll tab ∷ []
+ofHeader tab = tab .edition ∷ tab .frame ∷ transactions tab ∷ inAll tab ∷ 0 ∷ []
 
 -- the row of a table
 unfoldable pub rowOf : Table → List ℕ
@@ -114,18 +118,23 @@ rowOf tab =
 abbrev pub emptyRow : List ℕ
 emptyRow = padded rowCells []
 
--- the table that a row holds
+-- The table that any row holds: document 01's fields alone, with the tasks in order. The number of tasks in all, of a
+-- transaction's first task and of a task's transaction follow from them, and their cells are not looked at
 
-unfoldable pub taskOf : List ℕ → ℕ → ℕ → Task
-taskOf row m k =
+unfoldable pub taskOf : List ℕ → (modes k : ℕ) → Task
+taskOf row modes k =
     record {
       offset = getD row (taskCell k + offsetCell) 0;
       jitter = getD row (taskCell k + jitterCell) 0;
       blocking = getD row (taskCell k + blockingCell) 0;
       deadline = getD row (taskCell k + deadlineCell) 0;
       priority = getD row (taskCell k + priorityCell) 0;
-      times = listOf m (λ i. getD row (taskCell k + (timesCell + i)) 0);
+      times = listOf modes (λ m. getD row (taskCell k + (timesCell + m)) 0);
     }
+
+-- how many tasks it says stand before transaction u
+unfoldable pub tasksBefore : List ℕ → ℕ → ℕ
+tasksBefore row u = sum u (λ v. getD row (transactionCell v + hasCell) 0)
 
 unfoldable pub transactionOf : List ℕ → ℕ → Transaction
 transactionOf row u =
@@ -134,7 +143,7 @@ transactionOf row u =
       modes = getD row (transactionCell u + modesCell) 0;
       tasks =
           listOf (getD row (transactionCell u + hasCell) 0)
-          (λ j. taskOf row (getD row (transactionCell u + modesCell) 0) (getD row (transactionCell u + firstCell) 0 + j));
+          (λ j. taskOf row (getD row (transactionCell u + modesCell) 0) (tasksBefore row u + j));
     }
 
 unfoldable pub tableOf : List ℕ → Table
@@ -145,11 +154,19 @@ tableOf row =
       transactions = listOf (getD row countCell 0) (transactionOf row);
     }
 
--- cell i of transaction u, and of task j of transaction u: 0 where the row has no such transaction or task
+-- the row is, or begins with, that of a table that keeps the bounds on a table: there every cell is right
+pub record RowOfTable (row : List ℕ) : Type 0 where
+  pub kept : Kept (tableOf row)
+  pub isRow : rowOf (tableOf row) ≡ take rowCells row
 
-unfoldable pub headCell : List ℕ → ℕ → ℕ → ℕ
-headCell row u i = cond (ltb u (transactions (tableOf row))) (getD row (transactionCell u + i) 0) 0
+-- What a reader gives: cell i of transaction u, and of the task with number k; 0 where there may be no such one
 
-unfoldable pub bodyCell : List ℕ → ℕ → ℕ → ℕ → ℕ
-bodyCell row u j i =
-    cond (ltb j (tasks (tableOf row) u)) (getD row (taskCell (headCell row u firstCell + j) + i) 0) 0
+unfoldable pub headCell : List ℕ → (u i : ℕ) → ℕ
+headCell row u i = cond (ltb u transactionsMost) (getD row (transactionCell u + i) 0) 0
+
+unfoldable pub bodyCell : List ℕ → (k i : ℕ) → ℕ
+bodyCell row k i = cond (ltb k tasksInAll) (getD row (taskCell k + i) 0) 0
+
+-- the time in mode m of the task with number k
+unfoldable pub timeCell : List ℕ → (k m : ℕ) → ℕ
+timeCell row k m = cond (ltb m modesMost) (bodyCell row k (timesCell + m)) 0

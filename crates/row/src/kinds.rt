@@ -34,7 +34,7 @@ impl Table {
 
     pub const FIRST_AT: usize = Table::COUNT_AT + Table::TRANSACTIONS_WIDTH;
 
-    // The row: a header of four cells, then the transactions' cells and the tasks'.
+    // The row: a header of five cells, the last of which is spare, then the transactions' cells and the tasks'.
     pub const EDITION_CELL: usize = 0;
 
     pub const FRAME_CELL: usize = 1;
@@ -43,7 +43,9 @@ impl Table {
 
     pub const IN_ALL_CELL: usize = 3;
 
-    pub const HEADER_CELLS: usize = 4;
+    pub const SPARE_CELL: usize = 4;
+
+    pub const HEADER_CELLS: usize = 5;
 
     pub const TASKS_CELL: usize = Table::HEADER_CELLS + Table::TRANSACTIONS * Transaction::CELLS;
 
@@ -96,7 +98,7 @@ impl Transaction {
 
     pub const WIDTH: usize = Transaction::TASKS_AT + Transaction::TASKS_WIDTH;
 
-    // Its cells in the row; the third holds the number of its first task.
+    // Its cells in the row; the third holds the number of its first task, the last is spare.
     pub const PERIOD_CELL: usize = 0;
 
     pub const MODES_CELL: usize = 1;
@@ -105,7 +107,19 @@ impl Transaction {
 
     pub const TASKS_CELL: usize = 3;
 
-    pub const CELLS: usize = 4;
+    pub const SPARE_CELL: usize = 4;
+
+    pub const CELLS: usize = 5;
+
+    pub fn new(period: u32, modes: usize, tasks: usize) -> Transaction
+        ensures { λ r. ⌜ r ≡ record { period = period; modes = modes; tasks = tasks } ⌝ }
+    {
+        Transaction {
+            period,
+            modes,
+            tasks,
+        }
+    }
 }
 
 // What stands before the times of a task.
@@ -158,4 +172,16 @@ impl Task {
     pub const TIMES_CELL: usize = 6;
 
     pub const CELLS: usize = Task::TIMES_CELL + Transaction::MODES;
+
+    pub fn new(offset: u32, jitter: u32, blocking: u32, deadline: u32, priority: u32) -> Task
+        ensures { λ r. ⌜ r ≡ record { offset = offset; jitter = jitter; blocking = blocking; deadline = deadline; priority = priority } ⌝ }
+    {
+        Task {
+            offset,
+            jitter,
+            blocking,
+            deadline,
+            priority,
+        }
+    }
 }

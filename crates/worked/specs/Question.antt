@@ -43,15 +43,15 @@ end (ended over left) = 0
 end short = 0
 
 -- the job numbers from the first to the last by L
-unfoldable pub jobNumbers : Table → ℕ → ℕ → ℕ → ℕ → List ℤ
+unfoldable pub jobNumbers : Table → (u a m c : ℕ) → List ℤ
 jobNumbers tab u a m c =
     map (job tab u a c) (from 0 (jobsTo tab u a c (lastJob tab u a c (end (chain (busy tab u a m c) beyond? enough 1)))))
 
-unfoldable pub responseOf : Table → ℕ → ℕ → ℕ → ℕ → ℤ → ℤ
+unfoldable pub responseOf : Table → (u a m c : ℕ) (p : ℤ) → ℤ
 responseOf tab u a m c p =
     response tab u a c p (end (chain (demand imposed tab u a m c p) never? enough (start tab u a m c p)))
 
-unfoldable pub threeCells : Later → Table → ℕ → ℕ → ℕ → Cells
+unfoldable pub threeCells : Later → Table → (u a budget : ℕ) → Cells
 threeCells later tab u a budget = cells (deadline tab u a) (answer later tab u a budget)
 
 -- what the definitions give

@@ -8,7 +8,6 @@ use denote.Ref.{now}
 use Rattle.refusals.specs.declared.Answer.{Answer}
 use Rattle.refusals.specs.declared.Answer.the-variants.{Accepted, Refused}
 use Rattle.refusals.specs.Answer.{isAccepted}
-use Rattle.table.specs.Lists.{padded}
 use Rattle.format.specs.Fault.{imageFault}
 use Rattle.row.specs.Row.{emptyRow}
 use Rattle.format.specs.Fault.{IsAccepted}
@@ -18,10 +17,10 @@ use borrow.Author.Needs.{needs}
 use Rattle.image.proofs.read.Statement.{statement}
 use Rattle.image.proofs.read.Tie as tie
 
-accepted : (c : tie.Then1) → IsAccepted (now (c .before .before .before .before .args .image))
+accepted : (c : tie.Then1) → IsAccepted (now (c .before .before .before .before .before .args .image))
 accepted c =
-    sym (c .before .before .first-fault .ensures)
-    ∙ accepted-is (c .before .before .first-fault .result) (sym (c .before .is-accepted .ensures) ∙ c .if1 .taken)
+    sym (c .before .before .before .first-fault .ensures)
+    ∙ accepted-is (c .before .before .before .first-fault .result) (sym (c .before .is-accepted .ensures) ∙ c .if1 .taken)
 
 row-refused : (a : Answer) (image : List ℕ) → isAccepted a ≡ false → rowFor a image ≡ emptyRow
 row-refused Accepted image h = let z : _≡_ {A = ℕ} 0 1 = cc in absurd (omega arith)
@@ -30,24 +29,27 @@ row-refused (Refused r at) image h = refl
 first-fault-requires : tie.Need-first-fault-requires
 first-fault-requires c κs = search needs
 
+empty-requires : tie.Need-empty-requires
+empty-requires c κs = search needs
+
 is-accepted-requires : tie.Need-is-accepted-requires
 is-accepted-requires c κs = search needs
 
 fill-requires : tie.Need-fill-requires
-unfolding padded
-fill-requires c κs = (accepted (c .before), refl)
+fill-requires c κs = (accepted (c .before), c .before .before .before .empty .ensures)
 
 returns : tie.Need-returns
-returns c = (c .before .before .before .before .first-fault .ensures, rw (accepted (c .before .before)) (c .fill .ensures))
+returns c = (c .before .before .before .before .before .first-fault .ensures, rw (accepted (c .before .before)) (c .fill .ensures))
 
 returns-2 : tie.Need-returns-2
-unfolding padded
-returns-2 c = (
-  c .before .before .first-fault .ensures,
-  sym (row-refused (imageFault (now (c .before .before .before .before .args .image))) _
-      (ap isAccepted (sym (c .before .before .first-fault .ensures)) ∙ sym (c .before .is-accepted .ensures) ∙ c .if1 .left)),
-)
+returns-2 c =
+    let fault = c .before .before .before .first-fault in (
+      fault .ensures,
+      c .before .before .empty .ensures
+          ∙ sym (row-refused (imageFault (now (c .before .before .before .before .before .args .image))) _
+          (ap isAccepted (sym (fault .ensures)) ∙ sym (c .before .is-accepted .ensures) ∙ c .if1 .left)),
+    )
 
 pub read-spec : {M : Type 1} → statement M
 read-spec =
-    tie.close (tie.spec first-fault-requires is-accepted-requires fill-requires returns returns-2)
+    tie.close (tie.spec first-fault-requires empty-requires is-accepted-requires fill-requires returns returns-2)

@@ -1,9 +1,8 @@
 -- `chains::demand` meets its contract: what the jobs to p take, with what the rivals charge, which is far below 2^64.
-use mathlib.Core.Path.{ap₂, _∙_}
+use mathlib.Core.Path.{ap₂, sym, _∙_}
 use Prim.Native.Nat.{ℕ, _+_}
 use native.Mathlib.Omega.{arith}
-use Rattle.analysis.specs.Bound.{demand}
-use Rattle.analysis.specs.Needed.{start}
+use Rattle.analysis.proofs.Join.{demand-rivals}
 use Rattle.charge.proofs.Ranges.{rivals-lt}
 use Rattle.answers.proofs.Instants.{instant-first, instant-blocking, instant-time, instant-candidate, instant-start, start-le}
 use Rattle.answers.proofs.chains.demand.Statement.{statement}
@@ -32,11 +31,11 @@ add-t9 c =
     )
 
 returns : tie.Need-returns
-unfolding demand start
 returns c =
     let a = c .before .before .before .before .args in
     let (lent, (subject, (turn, (near, short)))) = c .before .before .before .before .pre in
     ap₂ (λ (x y : ℕ). x + y) (c .before .before .before .start .ensures ∙ instant-start (lent .holds .kept) (subject .chosen .isTask) turn (a .p .0)) (c .before .before .rivals .ensures)
+    ∙ sym (demand-rivals _ _ (a .s .u) (a .s .a) (a .x .mode) (a .x .candidate) (a .p .0) (a .t .0))
 
 pub demand-spec : {M : Type 1} → statement M
 demand-spec = tie.close (tie.spec start-requires rivals-requires add-t9 returns)

@@ -7,7 +7,7 @@ use native.Mathlib.Omega.{arith}
 use lib.ListN.{getD}
 use Rattle.table.specs.Limits.{transactionsMost}
 use Rattle.table.specs.Table.{transactions}
-use Rattle.analysis.specs.Charge.{rivals}
+use Rattle.analysis.specs.Charge.{others, rivals}
 use Rattle.charge.specs.Links.{NextOther}
 use Rattle.answers.specs.Work.{othersCell, tableAt}
 use Rattle.charge.proofs.Ranges.{rivals-lt}
@@ -93,13 +93,13 @@ charge-requires c κs =
     (pre .0, (pre .1 .0, (pre .1 .1 .0, (pre .1 .1 .1 .0, c .split-of .ensures .isSplit))))
 
 returns : tie.Need-returns Inv-loop μ-loop
-unfolding rivals
+unfolding rivals others
 returns c =
-    let others = c .before .before .before .before .loop .inv in
+    let charges = c .before .before .before .before .loop .inv in
     let charged = c .before .charge .ensures in
     let at = c .before .before .split-of .ensures .at in
-    let all : c .before .before .before .before .loop .i ≡ transactions (tableAt (c .before .before .before .before .before .before .before .before .args .work .now)) = omega (arith, others .within, c .before .before .before .before .before .before .before .transactions .ensures) in
-    cc (others .sum)
+    let all : c .before .before .before .before .loop .i ≡ transactions (tableAt (c .before .before .before .before .before .before .before .before .args .work .now)) = omega (arith, charges .within, c .before .before .before .before .before .before .before .transactions .ensures) in
+    cc (charges .sum)
 
 add-t23 : tie.Need-add-t23 Inv-loop μ-loop
 add-t23 c =

@@ -32,6 +32,9 @@ element-write-cells-3 c = search needs
 element-write-cells-4 : tie.Need-element-write-cells-4
 element-write-cells-4 c = search needs
 
+element-write-cells-5 : tie.Need-element-write-cells-5
+element-write-cells-5 c = search needs
+
 returns : tie.Need-returns
 returns c =
     let image = now (c .before .before .before .before .before .before .before .before .args .image) in
@@ -59,4 +62,5 @@ fill-spec =
     element-write-cells-2
     element-write-cells-3
     element-write-cells-4
+    element-write-cells-5
     returns)

@@ -1,6 +1,6 @@
--- `fill::put_head` meets its contract: four stores.
+-- `fill::put_head` meets its contract: five stores.
 use native.Mathlib.Nat.{add-zero}
-use native.Mathlib.Numerals.{add-one, add-two, add-three}
+use native.Mathlib.Numerals.{add-one, add-two, add-three, add-four}
 use native.Mathlib.Omega.{arith}
 use denote.Ref.{now}
 use Rattle.format.proofs.Places.{modes-small, tasks-small}
@@ -54,6 +54,15 @@ mul-cells-4 c = search needs
 element-write-cells-4 : tie.Need-element-write-cells-4
 element-write-cells-4 c = search needs
 
+add-cells-5 : tie.Need-add-cells-5
+add-cells-5 c = search needs
+
+mul-cells-5 : tie.Need-mul-cells-5
+mul-cells-5 c = search needs
+
+element-write-cells-5 : tie.Need-element-write-cells-5
+element-write-cells-5 c = search needs
+
 returns : tie.Need-returns
 returns c =
     let a = c .before .before .before .before .args in
@@ -64,6 +73,7 @@ returns c =
       add-one (a .cell),
       add-two (a .cell),
       add-three (a .cell),
+      add-four (a .cell),
     )
 
 pub put-head-spec : {M : Type 1} → statement M
@@ -85,4 +95,7 @@ put-head-spec =
     add-cells-4
     mul-cells-4
     element-write-cells-4
+    add-cells-5
+    mul-cells-5
+    element-write-cells-5
     returns)

@@ -30,8 +30,20 @@ add-value-4 c = search needs
 value-requires-5 : tie.Need-value-requires-5
 value-requires-5 c κs = search needs
 
+new-requires : tie.Need-new-requires
+new-requires c κs = search needs
+
 returns : tie.Need-returns
-returns c = rw (c .value5 .ensures, c .before .value4 .ensures, c .before .before .value3 .ensures, c .before .before .before .value2 .ensures, c .before .before .before .before .value .ensures)
+returns c =
+    let v = c .before in
+    rw (
+      c .new .ensures,
+      v .value5 .ensures,
+      v .before .value4 .ensures,
+      v .before .before .value3 .ensures,
+      v .before .before .before .value2 .ensures,
+      v .before .before .before .before .value .ensures,
+    )
 
 pub body-at-spec : {M : Type 1} → statement M
 body-at-spec =
@@ -46,4 +58,5 @@ body-at-spec =
     value-requires-4
     add-value-4
     value-requires-5
+    new-requires
     returns)

@@ -18,14 +18,19 @@ value-requires-2 c κs = search needs
 value-requires-3 : tie.Need-value-requires-3
 value-requires-3 c κs = search needs
 
-cast-t5 : tie.Need-cast-t5
-cast-t5 c = search needs
+cast-new : tie.Need-cast-new
+cast-new c = search needs
 
-cast-t7 : tie.Need-cast-t7
-cast-t7 c = search needs
+cast-new-2 : tie.Need-cast-new-2
+cast-new-2 c = search needs
+
+new-requires : tie.Need-new-requires
+new-requires c κs = search needs
 
 returns : tie.Need-returns
-returns c = rw (c .value3 .ensures, c .before .value2 .ensures, c .before .before .value .ensures)
+returns c =
+    let v = c .before in
+    rw (c .new .ensures, v .value3 .ensures, v .before .value2 .ensures, v .before .before .value .ensures)
 
 pub head-at-spec : {M : Type 1} → statement M
 head-at-spec =
@@ -36,6 +41,7 @@ head-at-spec =
     add-value-2
     value-requires-2
     value-requires-3
-    cast-t5
-    cast-t7
+    cast-new
+    cast-new-2
+    new-requires
     returns)

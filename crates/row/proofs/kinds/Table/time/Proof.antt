@@ -1,16 +1,10 @@
--- `Table::time` meets its contract: past the modes of the transaction there is no time.
-use mathlib.Core.Path.{sym, _∙_}
-use denote.Ref.{now}
-use Rattle.row.proofs.Held.{held-time, held-no-time}
+-- `Table::time` meets its contract, a return for each outcome of its test.
+use borrow.Author.Tests.{lt-ltb, le-ltb}
+use Rattle.table.specs.Limits.{modesMost}
+use Rattle.row.specs.Row.{timeCell}
 use borrow.Author.Needs.{needs}
 use Rattle.row.proofs.kinds.Table.time.Statement.{statement}
 use Rattle.row.proofs.kinds.Table.time.Tie as tie
-
-modes-requires : tie.Need-modes-requires
-modes-requires c κs = search needs
-
-cast-count : tie.Need-cast-count
-cast-count c = search needs
 
 add-body-cell : tie.Need-add-body-cell
 add-body-cell c = search needs
@@ -19,17 +13,12 @@ body-cell-requires : tie.Need-body-cell-requires
 body-cell-requires c κs = search needs
 
 returns : tie.Need-returns
-returns c =
-    let a = c .before .before .before .args in
-    c .body-cell .ensures
-    ∙ sym (held-time (now (a .row)) (a .u) (a .m) (a .j) (rw (← c .before .before .modes .ensures) (c .before .if1 .taken)))
+unfolding timeCell
+returns c = rw (c .body-cell .ensures, lt-ltb (c .before .before .before .args .m) modesMost (c .before .if1 .taken))
 
 returns-2 : tie.Need-returns-2
-returns-2 c =
-    let a = c .before .before .args in
-    sym (held-no-time (now (a .row)) (a .u) (a .m) (a .j) (rw (← c .before .modes .ensures) (c .if1 .left)))
+unfolding timeCell
+returns-2 c = rw (le-ltb (c .before .before .args .m) modesMost (c .if1 .left))
 
 pub time-spec : {M : Type 1} → statement M
-time-spec =
-    tie.close
-    (tie.spec modes-requires cast-count add-body-cell body-cell-requires returns returns-2)
+time-spec = tie.close (tie.spec add-body-cell body-cell-requires returns returns-2)

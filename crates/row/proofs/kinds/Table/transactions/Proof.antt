@@ -10,7 +10,7 @@ cell-requires : tie.Need-cell-requires
 cell-requires c κs = search needs
 
 returns : tie.Need-returns
-returns c = c .cell .ensures ∙ sym (held-transactions (now (c .before .args .row)))
+returns c = c .cell .ensures ∙ sym (held-transactions (now (c .before .before .args .row)))
 
 pub transactions-spec : {M : Type 1} → statement M
 transactions-spec = tie.close (tie.spec cell-requires returns)

@@ -1,0 +1,36 @@
+-- Demand 3, of demand 2's bound: it holds in every legal run, and the whole-job bound is not below it.
+use mathlib.Core.Path.{_≡_}
+use Prim.Native.Nat.{ℕ, _+_}
+use Rattle.table.specs.Table.{Table, IsTask}
+use Rattle.table.specs.Kept.{Kept}
+use Rattle.periods.specs.Charge.{imposed}
+use Rattle.analysis.specs.Bound.{Bound, Tight}
+use Rattle.analysis.specs.Answer.{Answers, bound, kept}
+use Rattle.analysis.specs.Walk.{answer}
+use Rattle.runs.specs.Run.{Run, Finished, eventTick}
+use Rattle.runs.specs.Legal.{Rules, HoldsWidely}
+use Rattle.runs.specs.Promise.{Safe}
+use Rattle.analysis.proofs.Charges.{kept-period, imposed-fair}
+use Rattle.analysis.proofs.Response.{bounds}
+use Rattle.analysis.proofs.Answer.{answer-bound}
+use Rattle.analysis.proofs.Whole.{tight}
+use Rattle.runs.proofs.Sound.{sound, safe}
+
+module _ {tab : Table} (keeps : Kept tab) {u a : ℕ} (isTask : IsTask tab u a) where
+  -- from the holding rule of that task alone, and in the wider reading of 'unbroken stretch'
+  pub bound-sound : {R : ℕ} → Bound imposed tab u a R → (ρ : Run) → Rules tab ρ → HoldsWidely tab ρ u a → (k : ℕ) → Finished ρ u a k (eventTick tab ρ u k + R)
+  bound-sound {R} b ρ rules holds k =
+      sound tab (λ i l. kept-period keeps l) ρ rules u a k R isTask holds (bounds keeps isTask b)
+
+  pub bound-safe : {R : ℕ} → Bound imposed tab u a R → Safe tab u a R
+  bound-safe {R} b = safe tab (λ i l. kept-period keeps l) u a R isTask (bounds keeps isTask b)
+
+  -- of the answer that the definitions give
+  pub answers-safe : {budget R n : ℕ} → Answers tab u a budget (bound R n) → Safe tab u a R × Tight tab u a R
+  answers-safe (kept o needed l b) = (bound-safe b, tight keeps isTask b)
+
+  -- and of the answer that the walk computes
+  pub answer-safe : (budget : ℕ) {R n : ℕ} → answer imposed tab u a budget ≡ bound R n → Safe tab u a R × Tight tab u a R
+  answer-safe budget e =
+      let b = answer-bound keeps isTask imposed-fair budget e in
+      (bound-safe b, tight keeps isTask b)

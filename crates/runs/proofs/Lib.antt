@@ -1,0 +1,14 @@
+pub mod Apart
+pub mod Search
+pub mod Jobs
+pub mod Task
+pub mod Busy
+pub mod Steady
+pub mod Sound
+pub mod Demand
+pub mod Dispatch
+pub mod ExtendTicks
+pub mod Extend
+pub mod Exists
+pub mod ExistsDelayed
+pub mod SampleRun
