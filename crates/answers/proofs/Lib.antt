@@ -2,7 +2,6 @@ pub mod Answered
 pub mod Told
 pub mod Agree
 pub mod Sample
-pub mod Fields
 pub mod Readings
 pub mod Flags
 pub mod Signed

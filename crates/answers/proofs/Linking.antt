@@ -7,6 +7,7 @@ use native.Mathlib.Decide.{ℕ-discrete}
 use native.Mathlib.Omega.{arith}
 use lib.ListN.{length, getD, set}
 use lib.Seq.{getD-set-same, getD-set-other}
+use Rattle.row.specs.Row.{tableOf}
 use Rattle.table.specs.Table.{Table, IsTask, transactions, modes}
 use Rattle.table.specs.Limits.{modesMost, tasksInAll}
 use Rattle.table.specs.Number.{inAll, number}
@@ -14,16 +15,7 @@ use Rattle.table.specs.Kept.{Kept}
 use Rattle.table.proofs.Number.{number-lt, number-unique}
 use Rattle.answers.specs.declared.charges.Subject.{Subject}
 use Rattle.charge.specs.Links.{settingNumber, NextSetting, NextOther}
-use Rattle.answers.specs.Work.{
-  settingsCell,
-  othersCell,
-  workCells,
-  tableAt,
-  Lent,
-  Chosen,
-  Weighs,
-  IsSubject,
-}
+use Rattle.answers.specs.Work.{settingsCell, othersCell, workCells, Lent, Chosen, Weighs, IsSubject}
 use Rattle.answers.specs.Parts.{SameTo, LinkedFrom, OthersFrom}
 use Rattle.charge.proofs.Links.{setting-le}
 use Rattle.answers.proofs.Filling.{same-less, same-cell, lent-same}
@@ -37,10 +29,10 @@ pub weighs-same :
     → Weighs old s
     → (work : List ℕ)
     → SameTo settingsCell old work
-    → Lent work × (Weighs work s × (tableAt work ≡ tableAt old))
+    → Lent work × (Weighs work s × (tableOf work ≡ tableOf old))
 weighs-same {s = s} lent weighs work same =
     let (now, table) = lent-same lent work (same-less (omega arith) same) in
-    (now, (subject-same s table (lent .holds .kept) same weighs, table))
+    (now, (subject-same s table (lent .table .kept) same weighs, table))
 
 -- ---- one store
 
@@ -138,7 +130,7 @@ module _ {tab : Table} {u a : ℕ} where
 
 pub linked-subject :
     (work : List ℕ) (tab : Table) (s : Subject)
-    → tableAt work ≡ tab
+    → tableOf work ≡ tab
     → Chosen tab s
     → Weighs work s
     → LinkedFrom tab (s .u) (s .a) 0 work

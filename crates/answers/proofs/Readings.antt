@@ -6,6 +6,7 @@ use Prim.Native.Nat.{ℕ, _+_, _*_, _-_, _^_, _≤_, _<_}
 use native.Mathlib.Nat.{add-zero, le-trans, mul-le-mul, mul-le-mul-right, le-mul-of-pos-right}
 use native.Mathlib.Omega.{arith}
 use lib.ListN.{getD}
+use Rattle.row.specs.Row.{tableOf}
 use Rattle.table.specs.Sum.{sum}
 use Rattle.table.specs.Limits.{modesMost, tasksMost, tasksInAll}
 use Rattle.table.specs.Table.{Table, IsTask, period, modes, tasks}
@@ -27,7 +28,7 @@ use Rattle.charge.proofs.Weights.{weight-lt, mode-weight-le}
 use Rattle.charge.proofs.Split.{rest-le, charge-split, charge-capped}
 use Rattle.charge.proofs.Along.{SettingAt}
 use Rattle.answers.specs.Split.{moment, IsSplit}
-use Rattle.answers.specs.Work.{phasesCell, weightsCell, sumsCell, settingsCell, tableAt, Lent, IsSubject}
+use Rattle.answers.specs.Work.{phasesCell, weightsCell, sumsCell, settingsCell, Lent, IsSubject}
 
 -- ---- ranges
 
@@ -81,30 +82,30 @@ restCell work whole x phases weights j =
 abbrev pub InWork : Split → (m c : ℕ) → Type 0
 InWork x m c = (x .first + c < tasksInAll) × ((m < modesMost) × ((1 ≤ x .count) × (x .count ≤ tasksMost)))
 
-module _ {work : List ℕ} (lent : Lent work) {i : ℕ} {x : Split} (split : IsSplit (tableAt work) i x) where
-  pub place-lt : {j : ℕ} → IsTask (tableAt work) i j → x .first + j < tasksInAll
+module _ {work : List ℕ} (lent : Lent work) {i : ℕ} {x : Split} (split : IsSplit (tableOf work) i x) where
+  pub place-lt : {j : ℕ} → IsTask (tableOf work) i j → x .first + j < tasksInAll
   unfolding number
-  place-lt {j} t = omega (arith, split .first, number-lt (tableAt work) t, lent .holds .kept .fewTasks)
+  place-lt {j} t = omega (arith, split .first, number-lt (tableOf work) t, lent .table .kept .fewTasks)
 
-  pub in-work : {m c : ℕ} → IsTask (tableAt work) i c → m < modes (tableAt work) i → InWork x m c
+  pub in-work : {m c : ℕ} → IsTask (tableOf work) i c → m < modes (tableOf work) i → InWork x m c
   unfolding tasks
   in-work t mode =
-      let kept = lent .holds .kept in
+      let kept = lent .table .kept in
       let m = modes-few kept (t .owner) in
       let n = tasks-few kept (t .owner) in
       (place-lt t, (omega arith, (omega (arith, split .count, kept .each i (t .owner) .someTask), omega (arith, split .count))))
 
-  pub phase-at : {c j : ℕ} → IsTask (tableAt work) i c → IsTask (tableAt work) i j → getD work (phasesCell + tasksMost * (x .first + c) + j) 0 ≡ phaseOf (tableAt work) i c j
+  pub phase-at : {c j : ℕ} → IsTask (tableOf work) i c → IsTask (tableOf work) i j → getD work (phasesCell + tasksMost * (x .first + c) + j) 0 ≡ phaseOf (tableOf work) i c j
   unfolding number
   phase-at {c} {j} k t = rw (split .first) (lent .phases i c j k t)
 
-  module _ {s : Subject} (subject : IsSubject work s) {m : ℕ} (mode : m < modes (tableAt work) i) where
-    pub weight-at : {j : ℕ} → IsTask (tableAt work) i j → getD work (weightsCell + tasksInAll * m + (x .first + j)) 0 ≡ weight (tableAt work) (s .u) (s .a) i m j
+  module _ {s : Subject} (subject : IsSubject work s) {m : ℕ} (mode : m < modes (tableOf work) i) where
+    pub weight-at : {j : ℕ} → IsTask (tableOf work) i j → getD work (weightsCell + tasksInAll * m + (x .first + j)) 0 ≡ weight (tableOf work) (s .u) (s .a) i m j
     unfolding number
     weight-at {j} t = rw (split .first) (subject .weighs .weight i m j t mode)
 
     -- the same cell as the code adds it up
-    weight-in : {j : ℕ} → IsTask (tableAt work) i j → getD work (weightsCell + tasksInAll * m + x .first + j) 0 ≡ weight (tableAt work) (s .u) (s .a) i m j
+    weight-in : {j : ℕ} → IsTask (tableOf work) i j → getD work (weightsCell + tasksInAll * m + x .first + j) 0 ≡ weight (tableOf work) (s .u) (s .a) i m j
     weight-in {j} t =
         let e : weightsCell + tasksInAll * m + x .first + j ≡ weightsCell + tasksInAll * m + (x .first + j) = omega arith in
         ap (λ (n : ℕ). getD work n 0) e ∙ weight-at t
@@ -112,7 +113,7 @@ module _ {work : List ℕ} (lent : Lent work) {i : ℕ} {x : Split} (split : IsS
     -- the cells of task j are as `rest_of` requires
     pub rest-needs :
         {c : ℕ}
-        → IsTask (tableAt work) i c
+        → IsTask (tableOf work) i c
         → (j : ℕ)
         → j < x .count
         → (x .period < 2 ^ 24)
@@ -120,15 +121,15 @@ module _ {work : List ℕ} (lent : Lent work) {i : ℕ} {x : Split} (split : IsS
         × ((getD work (phasesCell + tasksMost * (x .first + c) + j) 0 < x .period)
         × (getD work (weightsCell + tasksInAll * m + x .first + j) 0 < 2 ^ 24)))
     rest-needs {c} k j l =
-        let kept = lent .holds .kept in
-        let own : j < tasks (tableAt work) i = omega (arith, split .count) in
-        let t : IsTask (tableAt work) i j = record { owner = k .owner; place = own } in (
+        let kept = lent .table .kept in
+        let own : j < tasks (tableOf work) i = omega (arith, split .count) in
+        let t : IsTask (tableOf work) i j = record { owner = k .owner; place = own } in (
           omega (arith, split .period, period-lt kept (k .owner)),
           (split .below, (rw (phase-at k t) (phase-of-below kept split c j), rw (weight-in t) (weight-lt kept (s .u) (s .a) (k .owner) mode j own))),
         )
 
     -- the rest of a task by its cells, and of all tasks
-    module _ {c : ℕ} (k : IsTask (tableAt work) i c) (whole : Bool) where
+    module _ {c : ℕ} (k : IsTask (tableOf work) i c) (whole : Bool) where
       abbrev restIn : ℕ → ℕ
       restIn j = restCell work whole x (phasesCell + tasksMost * (x .first + c)) (weightsCell + tasksInAll * m + x .first) j
 
@@ -136,35 +137,35 @@ module _ {work : List ℕ} (lent : Lent work) {i : ℕ} {x : Split} (split : IsS
       pub rest-first : restIn 0 ≡ restOf whole (x .periods) (x .period) (x .rest) (getD work (phasesCell + tasksMost * (x .first + c)) 0) (getD work (weightsCell + tasksInAll * m + x .first) 0)
       rest-first = rw (add-zero (phasesCell + tasksMost * (x .first + c)), add-zero (weightsCell + tasksInAll * m + x .first))
 
-      rest-in : {j : ℕ} → IsTask (tableAt work) i j → restIn j ≡ restAt whole (tableAt work) (s .u) (s .a) i m c (x .periods) (x .rest) j
+      rest-in : {j : ℕ} → IsTask (tableOf work) i j → restIn j ≡ restAt whole (tableOf work) (s .u) (s .a) i m c (x .periods) (x .rest) j
       unfolding restAt
       rest-in {j} t = rw (phase-at k t, weight-in t, split .period)
 
-      pub rests-in : (n : ℕ) → n ≡ x .count → sum n restIn ≡ rests whole (tableAt work) (s .u) (s .a) i m c (x .periods) (x .rest)
+      pub rests-in : (n : ℕ) → n ≡ x .count → sum n restIn ≡ rests whole (tableOf work) (s .u) (s .a) i m c (x .periods) (x .rest)
       unfolding rests
       rests-in n e =
-          ap (λ (n : ℕ). sum n restIn) (e ∙ split .count) ∙ sum-ext (tasks (tableAt work) i) {f = restIn} (λ j l. rest-in (record { owner = k .owner; place = l }))
+          ap (λ (n : ℕ). sum n restIn) (e ∙ split .count) ∙ sum-ext (tasks (tableOf work) i) {f = restIn} (λ j l. rest-in (record { owner = k .owner; place = l }))
 
-      rest-in-le : (j : ℕ) → j < tasks (tableAt work) i → restIn j ≤ 2 ^ 25
+      rest-in-le : (j : ℕ) → j < tasks (tableOf work) i → restIn j ≤ 2 ^ 25
       unfolding restAt
       rest-in-le j l =
           omega (
             arith,
             rest-in {j = j} (record { owner = k .owner; place = l }),
-            rest-le whole (x .periods) (period (tableAt work) i) (x .rest) (phaseOf (tableAt work) i c j) (weight (tableAt work) (s .u) (s .a) i m j),
-            weight-lt (lent .holds .kept) (s .u) (s .a) (k .owner) mode j l,
+            rest-le whole (x .periods) (period (tableOf work) i) (x .rest) (phaseOf (tableOf work) i c j) (weight (tableOf work) (s .u) (s .a) i m j),
+            weight-lt (lent .table .kept) (s .u) (s .a) (k .owner) mode j l,
           )
 
       pub rests-room : (j : ℕ) → j < x .count → sum j restIn + restIn j ≤ tasksMost * 2 ^ 25
       rests-room j l =
-          omega (arith, sum-room {f = restIn} j rest-in-le (omega (arith, split .count)), tasks-few (lent .holds .kept) (k .owner))
+          omega (arith, sum-room {f = restIn} j rest-in-le (omega (arith, split .count)), tasks-few (lent .table .kept) (k .owner))
 
     pub sum-at :
         {c : ℕ}
-        → IsTask (tableAt work) i c
+        → IsTask (tableOf work) i c
         → getD work (sumsCell + 2 * (modesMost * (x .first + c) + m)) 0
         + getD work (sumsCell + 2 * (modesMost * (x .first + c) + m) + 1) 0 * 2 ^ 32
-        ≡ heldBack (tableAt work) (s .u) (s .a) i m c
+        ≡ heldBack (tableOf work) (s .u) (s .a) i m c
     unfolding number
     sum-at {c} t = rw (split .first) (subject .weighs .sum i m c t mode)
 
@@ -172,22 +173,22 @@ module _ {work : List ℕ} (lent : Lent work) {i : ℕ} {x : Split} (split : IsS
 module _ {work : List ℕ} {s : Subject} (subject : IsSubject work s) {i : ℕ} where
   pub first-setting :
       {x : Split}
-      → Kept (tableAt work)
-      → IsSplit (tableAt work) i x
-      → NextSetting (tableAt work) (s .u) (s .a) (modesMost * before (tableAt work) i) (getD work (settingsCell + modesMost * x .first) 0)
+      → Kept (tableOf work)
+      → IsSplit (tableOf work) i x
+      → NextSetting (tableOf work) (s .u) (s .a) (modesMost * before (tableOf work) i) (getD work (settingsCell + modesMost * x .first) 0)
   unfolding settingNumber number tasks
   first-setting {x} kept split =
-      let e : modesMost * x .first ≡ modesMost * (before (tableAt work) i + 0) + 0 = omega (arith, split .first) in
-      let first : IsTask (tableAt work) i 0 = record { owner = split .owner; place = kept .each i (split .owner) .someTask } in
-      let f : modesMost * before (tableAt work) i ≡ modesMost * (before (tableAt work) i + 0) + 0 = omega arith in
+      let e : modesMost * x .first ≡ modesMost * (before (tableOf work) i + 0) + 0 = omega (arith, split .first) in
+      let first : IsTask (tableOf work) i 0 = record { owner = split .owner; place = kept .each i (split .owner) .someTask } in
+      let f : modesMost * before (tableOf work) i ≡ modesMost * (before (tableOf work) i + 0) + 0 = omega arith in
       rw (e, f) (subject .settings i 0 0 first (omega arith))
 
   pub next-setting :
       {z m c : ℕ}
-      → SettingAt (tableAt work) i z m c
-      → m < modes (tableAt work) i
-      → NextSetting (tableAt work) (s .u) (s .a) (z + 1) (getD work (settingsCell + (z + 1)) 0)
+      → SettingAt (tableOf work) i z m c
+      → m < modes (tableOf work) i
+      → NextSetting (tableOf work) (s .u) (s .a) (z + 1) (getD work (settingsCell + (z + 1)) 0)
   unfolding settingNumber
   next-setting {z} {m} {c} at mode =
-      let e : z + 1 ≡ modesMost * number (tableAt work) i c + (m + 1) = omega (arith, at .numbered) in
+      let e : z + 1 ≡ modesMost * number (tableOf work) i c + (m + 1) = omega (arith, at .numbered) in
       rw e (subject .settings i (m + 1) c (at .isTask) (omega arith))

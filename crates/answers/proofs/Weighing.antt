@@ -7,6 +7,7 @@ use native.Mathlib.Decide.{ℕ-discrete}
 use native.Mathlib.Omega.{arith}
 use lib.ListN.{length, getD, set, length-set}
 use lib.Seq.{getD-set-other}
+use Rattle.row.specs.Row.{tableOf}
 use Rattle.table.specs.Sum.{sum}
 use Rattle.table.specs.Table.{Table, IsTask, transactions, modes}
 use Rattle.table.specs.Limits.{modesMost, tasksMost, tasksInAll}
@@ -16,17 +17,7 @@ use Rattle.table.proofs.Sum.{sum-ext}
 use Rattle.table.proofs.Number.{number-lt, number-unique}
 use Rattle.analysis.specs.Charge.{heldOf}
 use Rattle.answers.specs.declared.charges.Subject.{Subject}
-use Rattle.answers.specs.Work.{
-  heldCell,
-  weightsCell,
-  modeWeightsCell,
-  sumsCell,
-  settingsCell,
-  workCells,
-  tableAt,
-  Lent,
-  Weighs,
-}
+use Rattle.answers.specs.Work.{heldCell, weightsCell, modeWeightsCell, sumsCell, settingsCell, workCells, Lent, Weighs}
 use Rattle.charge.specs.Weight.{weight, modeWeight, heldBack}
 use Rattle.answers.specs.Parts.{SameTo, TasksOf, ModeWeighed, Summed, WeighedTo}
 use Rattle.charge.proofs.Ranges.{sum-next, sum-room, tasks-few, modes-few, held-of-lt}
@@ -217,17 +208,17 @@ abbrev pub heldWeight : List ℕ → ℕ → ℕ → ℕ → ℕ → ℕ
 heldWeight work m c f j =
     getD work (heldCell + tasksMost * (f + c) + j) 0 * getD work (weightsCell + tasksInAll * m + (f + j)) 0
 
-module _ {work : List ℕ} (lent : Lent work) {u a i m f n c : ℕ} (own : TasksOf (tableAt work) i f n) (mode : m < modes (tableAt work) i)
-    (loaded : ModeWeighed (tableAt work) u a i m work) (here : c < n) where
-  held-weight-is : {j : ℕ} → j < n → heldWeight work m c f j ≡ heldOf (tableAt work) i c j * weight (tableAt work) u a i m j
+module _ {work : List ℕ} (lent : Lent work) {u a i m f n c : ℕ} (own : TasksOf (tableOf work) i f n) (mode : m < modes (tableOf work) i)
+    (loaded : ModeWeighed (tableOf work) u a i m work) (here : c < n) where
+  held-weight-is : {j : ℕ} → j < n → heldWeight work m c f j ≡ heldOf (tableOf work) i c j * weight (tableOf work) u a i m j
   unfolding number
   held-weight-is {j} l =
-      let is = place (lent .holds .kept) own mode l in
-      rw (own .first) (ap₂ _*_ (lent .held i c j (place (lent .holds .kept) own mode here) is) (loaded .weight j is))
+      let is = place (lent .table .kept) own mode l in
+      rw (own .first) (ap₂ _*_ (lent .held i c j (place (lent .table .kept) own mode here) is) (loaded .weight j is))
 
   pub held-weight-le : {j : ℕ} → j < n → heldWeight work m c f j ≤ 2 ^ 49
   held-weight-le {j} l =
-      let kept = lent .holds .kept in
+      let kept = lent .table .kept in
       let is = place kept own mode l in
       rw (held-weight-is l)
       (mul-le-mul {n₂ = 2 ^ 25} {m₂ = 2 ^ 24} (omega (arith, held-of-lt kept is c)) (omega (arith, weight-lt kept u a (own .owner) mode j (is .place))))
@@ -235,13 +226,13 @@ module _ {work : List ℕ} (lent : Lent work) {u a i m f n c : ℕ} (own : Tasks
   -- the sum with the next task
   pub held-room : {j : ℕ} → j < n → sum j (heldWeight work m c f) + heldWeight work m c f j ≤ tasksMost * 2 ^ 49
   held-room {j} l =
-      omega (arith, sum-room {f = heldWeight work m c f} {K = 2 ^ 49} j (λ z k. held-weight-le k) l, tasks-few (lent .holds .kept) (own .owner), own .count)
+      omega (arith, sum-room {f = heldWeight work m c f} {K = 2 ^ 49} j (λ z k. held-weight-le k) l, tasks-few (lent .table .kept) (own .owner), own .count)
 
-  pub held-back-is : sum n (heldWeight work m c f) ≡ heldBack (tableAt work) u a i m c
+  pub held-back-is : sum n (heldWeight work m c f) ≡ heldBack (tableOf work) u a i m c
   unfolding heldBack
   held-back-is =
       sum-ext n {f = heldWeight work m c f} (λ j l. held-weight-is l)
-      ∙ ap (λ (k : ℕ). sum k (λ j. heldOf (tableAt work) i c j * weight (tableAt work) u a i m j)) (own .count)
+      ∙ ap (λ (k : ℕ). sum k (λ j. heldOf (tableOf work) i c j * weight (tableOf work) u a i m j)) (own .count)
 
 -- the modes below mode m of transaction i, and there the sums of the first n candidates
 pub record SumsTo (tab : Table) (u a i m f n : ℕ) (old work : List ℕ) : Type 0 where
@@ -360,7 +351,7 @@ weighed-next {tab} kept u a i x =
 
 pub weighed-subject :
     (work : List ℕ) (tab : Table) (s : Subject)
-    → tableAt work ≡ tab
+    → tableOf work ≡ tab
     → Kept tab
     → WeighedTo tab (s .u) (s .a) (modesMost * transactions tab) work
     → Weighs work s
@@ -374,9 +365,9 @@ weighed-subject work tab s e kept x =
     }
 
 -- stores behind the sums leave the weights of the subject
-pub subject-same : {old work : List ℕ} (s : Subject) → tableAt work ≡ tableAt old → Kept (tableAt old) → SameTo settingsCell old work → Weighs old s → Weighs work s
+pub subject-same : {old work : List ℕ} (s : Subject) → tableOf work ≡ tableOf old → Kept (tableOf old) → SameTo settingsCell old work → Weighs old s → Weighs work s
 subject-same {old} {work} s e kept same x =
-    weighed-subject work (tableAt old) s e kept
+    weighed-subject work (tableOf old) s e kept
     (record {
       weighed = λ i m h mode l.
           mode-weighed-same kept (s .u) (s .a) h mode (same-less (omega arith) same) (record { weight = λ j is. x .weight i m j is mode; modeWeight = x .modeWeight i m h mode });

@@ -1,4 +1,4 @@
--- A table's row, and the parts of the work cells as they are filled: task by task or mode by mode, in the order of their
+-- The parts of the work cells as they are filled: task by task or mode by mode, in the order of their
 -- numbers.
 use mathlib.Core.Path.{_≡_}
 use mathlib.Core.List.{List}
@@ -7,18 +7,11 @@ use lib.ListN.{length, getD, take}
 use Rattle.table.specs.Table.{Table, IsTask, transactions, tasks, modes}
 use Rattle.table.specs.Limits.{modesMost, tasksMost, tasksInAll}
 use Rattle.table.specs.Number.{before, number}
-use Rattle.table.specs.Kept.{Kept}
-use Rattle.row.specs.Row.{rowOf, tableOf}
 use Rattle.analysis.specs.Charge.{phaseOf, heldOf}
 use Rattle.answers.specs.declared.charges.Subject.{Subject}
 use Rattle.answers.specs.Work.{phasesCell, heldCell, weightsCell, modeWeightsCell, sumsCell, settingsCell, othersCell, Chosen}
 use Rattle.charge.specs.Links.{settingNumber, NextSetting, NextOther}
 use Rattle.charge.specs.Weight.{weight, modeWeight, heldBack}
-
--- the row of a table that keeps the bounds on a table
-pub record RowOfTable (row : List ℕ) : Type 0 where
-  pub kept : Kept (tableOf row)
-  pub isRow : rowOf (tableOf row) ≡ row
 
 -- the cells are as many as the old ones, and the first n are the same
 pub record SameTo (n : ℕ) (old work : List ℕ) : Type 0 where

@@ -4,12 +4,11 @@
 use mathlib.Core.Path.{_≡_}
 use mathlib.Core.List.{List}
 use Prim.Native.Nat.{ℕ, _+_, _*_, _^_, _≤_, _<_}
-use lib.ListN.{length, getD, take}
+use lib.ListN.{length, getD}
 use Rattle.table.specs.Table.{Table, IsTask, transactions, modes, priority}
 use Rattle.table.specs.Limits.{transactionsMost, modesMost, tasksMost, tasksInAll}
 use Rattle.table.specs.Number.{number}
-use Rattle.table.specs.Kept.{Kept}
-use Rattle.row.specs.Row.{rowCells, rowOf, tableOf}
+use Rattle.row.specs.Row.{rowCells, tableOf, RowOfTable}
 use Rattle.analysis.specs.Charge.{phaseOf, heldOf}
 use Rattle.answers.specs.declared.charges.Subject.{Subject}
 use Rattle.charge.specs.Weight.{weight, modeWeight, heldBack}
@@ -17,7 +16,7 @@ use Rattle.charge.specs.Links.{settingNumber, NextSetting, NextOther}
 
 -- where the parts begin: after the table's row a phase and a held-back count for each task as candidate and each place in
 -- its transaction; a weight for each mode and task; their sum for each transaction and mode; for each task as candidate and
--- each mode a held-back sum, its lower half first, and the next work to be charged; and for each transaction the next other one
+-- each mode a held-back sum, its lower half first, and the next setting to be charged; and for each transaction the next other one
 
 abbrev pub phasesCell : ℕ
 phasesCell = rowCells
@@ -43,29 +42,20 @@ othersCell = settingsCell + (tasksInAll * modesMost + 1)
 abbrev pub workCells : ℕ
 workCells = othersCell + (transactionsMost + 1)
 
--- the table in work cells
-unfoldable pub tableAt : List ℕ → Table
-tableAt work = tableOf (take rowCells work)
-
--- the cells hold a table that keeps the bounds on a table
-pub record HoldsTable (work : List ℕ) : Type 0 where
-  pub size : length work ≡ workCells
-  pub kept : Kept (tableAt work)
-  pub isRow : rowOf (tableAt work) ≡ take rowCells work
-
--- with its phases and held-back jobs
+-- work cells that begin with the row of a kept table, with its phases and held-back jobs
 pub record Lent (work : List ℕ) : Type 0 where
-  pub holds : HoldsTable work
+  pub size : length work ≡ workCells
+  pub table : RowOfTable work
   pub phases :
       (i c j : ℕ)
-      → IsTask (tableAt work) i c
-      → IsTask (tableAt work) i j
-      → getD work (phasesCell + tasksMost * number (tableAt work) i c + j) 0 ≡ phaseOf (tableAt work) i c j
+      → IsTask (tableOf work) i c
+      → IsTask (tableOf work) i j
+      → getD work (phasesCell + tasksMost * number (tableOf work) i c + j) 0 ≡ phaseOf (tableOf work) i c j
   pub held :
       (i c j : ℕ)
-      → IsTask (tableAt work) i c
-      → IsTask (tableAt work) i j
-      → getD work (heldCell + tasksMost * number (tableAt work) i c + j) 0 ≡ heldOf (tableAt work) i c j
+      → IsTask (tableOf work) i c
+      → IsTask (tableOf work) i j
+      → getD work (heldCell + tasksMost * number (tableOf work) i c + j) 0 ≡ heldOf (tableOf work) i c j
 
 -- the subject is a task of the table, with its priority
 pub record Chosen (tab : Table) (s : Subject) : Type 0 where
@@ -76,29 +66,29 @@ pub record Chosen (tab : Table) (s : Subject) : Type 0 where
 pub record Weighs (work : List ℕ) (s : Subject) : Type 0 where
   pub weight :
       (i m j : ℕ)
-      → IsTask (tableAt work) i j
-      → m < modes (tableAt work) i
-      → getD work (weightsCell + tasksInAll * m + number (tableAt work) i j) 0 ≡ weight (tableAt work) (s .u) (s .a) i m j
+      → IsTask (tableOf work) i j
+      → m < modes (tableOf work) i
+      → getD work (weightsCell + tasksInAll * m + number (tableOf work) i j) 0 ≡ weight (tableOf work) (s .u) (s .a) i m j
   pub modeWeight :
       (i m : ℕ)
-      → i < transactions (tableAt work)
-      → m < modes (tableAt work) i
-      → getD work (modeWeightsCell + modesMost * i + m) 0 ≡ modeWeight (tableAt work) (s .u) (s .a) i m
+      → i < transactions (tableOf work)
+      → m < modes (tableOf work) i
+      → getD work (modeWeightsCell + modesMost * i + m) 0 ≡ modeWeight (tableOf work) (s .u) (s .a) i m
   pub sum :
       (i m c : ℕ)
-      → IsTask (tableAt work) i c
-      → m < modes (tableAt work) i
-      → getD work (sumsCell + 2 * (modesMost * number (tableAt work) i c + m)) 0
-      + getD work (sumsCell + 2 * (modesMost * number (tableAt work) i c + m) + 1) 0 * 2 ^ 32
-      ≡ heldBack (tableAt work) (s .u) (s .a) i m c
+      → IsTask (tableOf work) i c
+      → m < modes (tableOf work) i
+      → getD work (sumsCell + 2 * (modesMost * number (tableOf work) i c + m)) 0
+      + getD work (sumsCell + 2 * (modesMost * number (tableOf work) i c + m) + 1) 0 * 2 ^ 32
+      ≡ heldBack (tableOf work) (s .u) (s .a) i m c
 
 -- the work cells are the subject's: its weights, and the links over what its rivals charge
 pub record IsSubject (work : List ℕ) (s : Subject) : Type 0 where
-  pub chosen : Chosen (tableAt work) s
+  pub chosen : Chosen (tableOf work) s
   pub weighs : Weighs work s
   pub settings :
       (i m c : ℕ)
-      → IsTask (tableAt work) i c
-      → m ≤ modes (tableAt work) i
-      → NextSetting (tableAt work) (s .u) (s .a) (settingNumber (tableAt work) i m c) (getD work (settingsCell + settingNumber (tableAt work) i m c) 0)
-  pub others : (i : ℕ) → i ≤ transactions (tableAt work) → NextOther (tableAt work) (s .u) (s .a) i (getD work (othersCell + i) 0)
+      → IsTask (tableOf work) i c
+      → m ≤ modes (tableOf work) i
+      → NextSetting (tableOf work) (s .u) (s .a) (settingNumber (tableOf work) i m c) (getD work (settingsCell + settingNumber (tableOf work) i m c) 0)
+  pub others : (i : ℕ) → i ≤ transactions (tableOf work) → NextOther (tableOf work) (s .u) (s .a) i (getD work (othersCell + i) 0)

@@ -10,6 +10,7 @@ use row::Table;
 ghost use mathlib.Core.Path.{_≡_};
 ghost use lib.IntN.{pos, _+ℤ_, _-ℤ_};
 ghost use Prim.Native.Nat.{_+_, _*_, _-_, _<_, _≤_, _^_};
+ghost use Rattle.row.specs.Row.{tableOf};
 ghost use Rattle.periods.specs.Phase.{ceiling};
 ghost use Rattle.periods.specs.Charge.{imposed};
 ghost use Rattle.analysis.specs.Choice.{count};
@@ -19,7 +20,7 @@ ghost use Rattle.analysis.specs.Walk.{chain, beyond?, never?};
 ghost use Rattle.table.specs.Limits.{horizon};
 ghost use Rattle.charge.specs.Later.{laterOf};
 ghost use Rattle.answers.specs.Turn.{IsInstant, Near, Reaches, stopped};
-ghost use Rattle.answers.specs.Work.{Lent, IsSubject, tableAt};
+ghost use Rattle.answers.specs.Work.{Lent, IsSubject};
 
 // One turn of the walk: a mode and a candidate, with what of the subject they fix.
 pub(crate) struct Instant {
@@ -51,8 +52,8 @@ fn first_job(held: u64) -> JobNumber
 pub(crate) fn instant_of(work: &[u32; Work::CELLS], s: Subject, m: usize, c: usize) -> Instant
     requires { ⌜ Lent (now work) ⌝ }
     requires { ⌜ IsSubject (now work) s ⌝ }
-    requires { ⌜ Setting (tableAt (now work)) (s .u) (s .a) m c ⌝ }
-    ensures { λ r. ⌜ IsInstant (tableAt (now (work .entry))) (s .u) (s .a) m c r ⌝ }
+    requires { ⌜ Setting (tableOf (now work)) (s .u) (s .a) m c ⌝ }
+    ensures { λ r. ⌜ IsInstant (tableOf (now (work .entry))) (s .u) (s .a) m c r ⌝ }
 {
     Instant {
         mode: m,
@@ -116,10 +117,10 @@ pub(crate) fn demand(
 ) -> Ticks
     requires { ⌜ Lent (now work) ⌝ }
     requires { ⌜ IsSubject (now work) s ⌝ }
-    requires { ⌜ IsInstant (tableAt (now work)) (s .u) (s .a) (x .mode) (x .candidate) x ⌝ }
+    requires { ⌜ IsInstant (tableOf (now work)) (s .u) (s .a) (x .mode) (x .candidate) x ⌝ }
     requires { ⌜ Near (p .0) ⌝ }
     requires { ⌜ t .0 ≤ horizon ⌝ }
-    ensures { λ r. ⌜ r .0 ≡ demand (laterOf whole) (tableAt (now (work .entry))) (s .u) (s .a) (x .mode) (x .candidate) (p .0) (t .0) ⌝ }
+    ensures { λ r. ⌜ r .0 ≡ demand (laterOf whole) (tableOf (now (work .entry))) (s .u) (s .a) (x .mode) (x .candidate) (p .0) (t .0) ⌝ }
 {
     Ticks(start(x, p).0 + charges::rivals(work, s, whole, x.mode, x.candidate, t).0)
 }
@@ -128,10 +129,10 @@ pub(crate) fn demand(
 fn busy(work: &[u32; Work::CELLS], s: Subject, x: Instant, t: Ticks) -> Ticks
     requires { ⌜ Lent (now work) ⌝ }
     requires { ⌜ IsSubject (now work) s ⌝ }
-    requires { ⌜ IsInstant (tableAt (now work)) (s .u) (s .a) (x .mode) (x .candidate) x ⌝ }
+    requires { ⌜ IsInstant (tableOf (now work)) (s .u) (s .a) (x .mode) (x .candidate) x ⌝ }
     requires { ⌜ 1 ≤ t .0 ⌝ }
     requires { ⌜ t .0 ≤ horizon ⌝ }
-    ensures { λ r. ⌜ r .0 ≡ busy (tableAt (now (work .entry))) (s .u) (s .a) (x .mode) (x .candidate) (t .0) ⌝ }
+    ensures { λ r. ⌜ r .0 ≡ busy (tableOf (now (work .entry))) (s .u) (s .a) (x .mode) (x .candidate) (t .0) ⌝ }
 {
     let period = x.period;
     let phase = x.phase;
@@ -148,9 +149,9 @@ pub(crate) fn busy_chain(
 ) -> Stop
     requires { ⌜ Lent (now work) ⌝ }
     requires { ⌜ IsSubject (now work) s ⌝ }
-    requires { ⌜ IsInstant (tableAt (now work)) (s .u) (s .a) (x .mode) (x .candidate) x ⌝ }
+    requires { ⌜ IsInstant (tableOf (now work)) (s .u) (s .a) (x .mode) (x .candidate) x ⌝ }
     requires { ⌜ used ≤ budget ⌝ }
-    ensures { λ r. ⌜ r ≡ stopped budget (chain (busy (tableAt (now (work .entry))) (s .u) (s .a) (x .mode) (x .candidate)) beyond? (budget - used) 1) ⌝ }
+    ensures { λ r. ⌜ r ≡ stopped budget (chain (busy (tableOf (now (work .entry))) (s .u) (s .a) (x .mode) (x .candidate)) beyond? (budget - used) 1) ⌝ }
 {
     let horizon = reads::wide(Table::horizon());
     let mut made = used;
@@ -180,11 +181,11 @@ pub(crate) fn job_chain(
 ) -> Stop
     requires { ⌜ Lent (now work) ⌝ }
     requires { ⌜ IsSubject (now work) s ⌝ }
-    requires { ⌜ IsInstant (tableAt (now work)) (s .u) (s .a) (x .mode) (x .candidate) x ⌝ }
+    requires { ⌜ IsInstant (tableOf (now work)) (s .u) (s .a) (x .mode) (x .candidate) x ⌝ }
     requires { ⌜ Near (p .0) ⌝ }
-    requires { ⌜ Reaches (tableAt (now work)) (s .u) (s .a) (x .mode) (x .candidate) (p .0) ⌝ }
+    requires { ⌜ Reaches (tableOf (now work)) (s .u) (s .a) (x .mode) (x .candidate) (p .0) ⌝ }
     requires { ⌜ used ≤ budget ⌝ }
-    ensures { λ r. ⌜ r ≡ stopped budget (chain (demand imposed (tableAt (now (work .entry))) (s .u) (s .a) (x .mode) (x .candidate) (p .0)) never? (budget - used) (start (tableAt (now (work .entry))) (s .u) (s .a) (x .mode) (x .candidate) (p .0))) ⌝ }
+    ensures { λ r. ⌜ r ≡ stopped budget (chain (demand imposed (tableOf (now (work .entry))) (s .u) (s .a) (x .mode) (x .candidate) (p .0)) never? (budget - used) (start (tableOf (now (work .entry))) (s .u) (s .a) (x .mode) (x .candidate) (p .0))) ⌝ }
 {
     let mut made = used;
     let mut t = start(x, p).0;

@@ -8,6 +8,7 @@ use row::Table;
 use row::Transaction;
 ghost use mathlib.Core.Path.{_≡_};
 ghost use Prim.Native.Nat.{_+_, _*_, _<_, _≤_, _^_, _-_, min, max};
+ghost use Rattle.row.specs.Row.{tableOf, RowOfTable};
 ghost use Rattle.table.specs.Limits.{horizon, tasksMost, tasksInAll};
 ghost use Rattle.table.specs.Number.{number};
 ghost use Rattle.table.specs.Table.{IsTask, transactions, modes};
@@ -15,7 +16,7 @@ ghost use Rattle.analysis.specs.Charge.{phaseOf, heldOf, charge, greatest, riva
 ghost use Rattle.charge.specs.Later.{laterOf};
 ghost use Rattle.charge.specs.Split.{wholePeriods, restOf, rests, chargeCap};
 ghost use Rattle.answers.specs.Split.{moment, IsSplit, IsSplitAt};
-ghost use Rattle.answers.specs.Work.{HoldsTable, Lent, Weighs, IsSubject, tableAt};
+ghost use Rattle.answers.specs.Work.{Lent, Weighs, IsSubject};
 ghost use Rattle.charge.specs.Weight.{weight, modeWeight, heldBack};
 
 // The task under analysis: task a of transaction u, with its priority.
@@ -27,21 +28,21 @@ pub(crate) struct Subject {
 
 // Where task j of transaction i stands among the phases and the held-back jobs, when candidate c sets the instant.
 fn place(work: &[u32; Work::CELLS], i: usize, c: usize, j: usize) -> usize
-    requires { ⌜ HoldsTable (now work) ⌝ }
-    requires { ⌜ IsTask (tableAt (now work)) i c ⌝ }
-    requires { ⌜ IsTask (tableAt (now work)) i j ⌝ }
-    ensures place { λ r. ⌜ r ≡ tasksMost * number (tableAt (now (work .entry))) i c + j ⌝ }
+    requires { ⌜ RowOfTable (now work) ⌝ }
+    requires { ⌜ IsTask (tableOf (now work)) i c ⌝ }
+    requires { ⌜ IsTask (tableOf (now work)) i j ⌝ }
+    ensures place { λ r. ⌜ r ≡ tasksMost * number (tableOf (now (work .entry))) i c + j ⌝ }
     ensures within { λ r. ⌜ r < tasksInAll * tasksMost ⌝ }
 {
-    Transaction::TASKS * (reads::before(work, i) + c) + j
+    Transaction::TASKS * reads::number(work, i, c) + j
 }
 
 // Phase of task j when candidate c sets the critical instant.
 pub(crate) fn phase_of(work: &[u32; Work::CELLS], i: usize, c: usize, j: usize) -> u64
     requires { ⌜ Lent (now work) ⌝ }
-    requires { ⌜ IsTask (tableAt (now work)) i c ⌝ }
-    requires { ⌜ IsTask (tableAt (now work)) i j ⌝ }
-    ensures { λ r. ⌜ r ≡ phaseOf (tableAt (now (work .entry))) i c j ⌝ }
+    requires { ⌜ IsTask (tableOf (now work)) i c ⌝ }
+    requires { ⌜ IsTask (tableOf (now work)) i j ⌝ }
+    ensures { λ r. ⌜ r ≡ phaseOf (tableOf (now (work .entry))) i c j ⌝ }
 {
     reads::wide(work[Work::PHASES + place(work, i, c, j)])
 }
@@ -49,9 +50,9 @@ pub(crate) fn phase_of(work: &[u32; Work::CELLS], i: usize, c: usize, j: usize) 
 // Jobs of task j held back to the instant.
 pub(crate) fn held_of(work: &[u32; Work::CELLS], i: usize, c: usize, j: usize) -> u64
     requires { ⌜ Lent (now work) ⌝ }
-    requires { ⌜ IsTask (tableAt (now work)) i c ⌝ }
-    requires { ⌜ IsTask (tableAt (now work)) i j ⌝ }
-    ensures { λ r. ⌜ r ≡ heldOf (tableAt (now (work .entry))) i c j ⌝ }
+    requires { ⌜ IsTask (tableOf (now work)) i c ⌝ }
+    requires { ⌜ IsTask (tableOf (now work)) i j ⌝ }
+    ensures { λ r. ⌜ r ≡ heldOf (tableOf (now (work .entry))) i c j ⌝ }
 {
     reads::wide(work[Work::HELD + place(work, i, c, j)])
 }
@@ -84,16 +85,17 @@ pub(crate) struct Split {
 }
 
 fn split_of(work: &[u32; Work::CELLS], i: usize, t: Ticks) -> Split
-    requires { ⌜ HoldsTable (now work) ⌝ }
-    requires { ⌜ i < transactions (tableAt (now work)) ⌝ }
+    requires { ⌜ RowOfTable (now work) ⌝ }
+    requires { ⌜ i < transactions (tableOf (now work)) ⌝ }
     requires { ⌜ t .0 ≤ horizon ⌝ }
-    ensures { λ r. ⌜ IsSplitAt (tableAt (now (work .entry))) i (t .0) r ⌝ }
+    ensures { λ r. ⌜ IsSplitAt (tableOf (now (work .entry))) i (t .0) r ⌝ }
 {
-    let period = reads::period(work, i) as u32;
+    let cell = Table::HEADER_CELLS + i * Transaction::CELLS;
+    let period = work[cell + Transaction::PERIOD_CELL];
     let at = t.0 as u32;
     Split {
-        first: reads::before(work, i),
-        count: reads::tasks(work, i),
+        first: reads::index(work[cell + Transaction::FIRST_CELL]),
+        count: reads::index(work[cell + Transaction::TASKS_CELL]),
         period,
         rest: at % period,
         periods: reads::wide(at / period),
@@ -135,10 +137,10 @@ fn rests(
 ) -> u32
     requires { ⌜ Lent (now work) ⌝ }
     requires { ⌜ IsSubject (now work) s ⌝ }
-    requires { ⌜ IsTask (tableAt (now work)) i c ⌝ }
-    requires { ⌜ m < modes (tableAt (now work)) i ⌝ }
-    requires { ⌜ IsSplit (tableAt (now work)) i x ⌝ }
-    ensures { λ r. ⌜ r ≡ rests whole (tableAt (now (work .entry))) (s .u) (s .a) i m c (x .periods) (x .rest) ⌝ }
+    requires { ⌜ IsTask (tableOf (now work)) i c ⌝ }
+    requires { ⌜ m < modes (tableOf (now work)) i ⌝ }
+    requires { ⌜ IsSplit (tableOf (now work)) i x ⌝ }
+    ensures { λ r. ⌜ r ≡ rests whole (tableOf (now (work .entry))) (s .u) (s .a) i m c (x .periods) (x .rest) ⌝ }
 {
     let phases = Work::PHASES + Transaction::TASKS * (x.first + c);
     let weights = Work::WEIGHTS + Table::TASKS * m + x.first;
@@ -164,11 +166,11 @@ fn few_rests(
 ) -> u32
     requires { ⌜ Lent (now work) ⌝ }
     requires { ⌜ IsSubject (now work) s ⌝ }
-    requires { ⌜ IsTask (tableAt (now work)) i c ⌝ }
-    requires { ⌜ m < modes (tableAt (now work)) i ⌝ }
-    requires { ⌜ IsSplit (tableAt (now work)) i x ⌝ }
+    requires { ⌜ IsTask (tableOf (now work)) i c ⌝ }
+    requires { ⌜ m < modes (tableOf (now work)) i ⌝ }
+    requires { ⌜ IsSplit (tableOf (now work)) i x ⌝ }
     requires { ⌜ x .count < 4 ⌝ }
-    ensures { λ r. ⌜ r ≡ rests whole (tableAt (now (work .entry))) (s .u) (s .a) i m c (x .periods) (x .rest) ⌝ }
+    ensures { λ r. ⌜ r ≡ rests whole (tableOf (now (work .entry))) (s .u) (s .a) i m c (x .periods) (x .rest) ⌝ }
 {
     let phases = Work::PHASES + Transaction::TASKS * (x.first + c);
     let weights = Work::WEIGHTS + Table::TASKS * m + x.first;
@@ -187,10 +189,10 @@ fn few_rests(
 fn held_back(work: &[u32; Work::CELLS], s: Subject, i: usize, m: usize, c: usize, x: Split) -> u64
     requires { ⌜ Lent (now work) ⌝ }
     requires { ⌜ IsSubject (now work) s ⌝ }
-    requires { ⌜ IsTask (tableAt (now work)) i c ⌝ }
-    requires { ⌜ m < modes (tableAt (now work)) i ⌝ }
-    requires { ⌜ IsSplit (tableAt (now work)) i x ⌝ }
-    ensures { λ r. ⌜ r ≡ heldBack (tableAt (now (work .entry))) (s .u) (s .a) i m c ⌝ }
+    requires { ⌜ IsTask (tableOf (now work)) i c ⌝ }
+    requires { ⌜ m < modes (tableOf (now work)) i ⌝ }
+    requires { ⌜ IsSplit (tableOf (now work)) i x ⌝ }
+    ensures { λ r. ⌜ r ≡ heldBack (tableOf (now (work .entry))) (s .u) (s .a) i m c ⌝ }
 {
     let at = Work::SUMS + 2 * (Transaction::MODES * (x.first + c) + m);
     reads::wide(work[at]) + reads::wide(work[at + 1]) * 4_294_967_296
@@ -200,9 +202,9 @@ fn held_back(work: &[u32; Work::CELLS], s: Subject, i: usize, m: usize, c: usize
 pub(crate) fn mode_weight(work: &[u32; Work::CELLS], s: Subject, i: usize, m: usize) -> u64
     requires { ⌜ Lent (now work) ⌝ }
     requires { ⌜ Weighs (now work) s ⌝ }
-    requires { ⌜ i < transactions (tableAt (now work)) ⌝ }
-    requires { ⌜ m < modes (tableAt (now work)) i ⌝ }
-    ensures { λ r. ⌜ r ≡ modeWeight (tableAt (now (work .entry))) (s .u) (s .a) i m ⌝ }
+    requires { ⌜ i < transactions (tableOf (now work)) ⌝ }
+    requires { ⌜ m < modes (tableOf (now work)) i ⌝ }
+    ensures { λ r. ⌜ r ≡ modeWeight (tableOf (now (work .entry))) (s .u) (s .a) i m ⌝ }
 {
     reads::wide(work[Work::MODE_WEIGHTS + Transaction::MODES * i + m])
 }
@@ -228,10 +230,10 @@ fn charge(
 ) -> Ticks
     requires { ⌜ Lent (now work) ⌝ }
     requires { ⌜ IsSubject (now work) s ⌝ }
-    requires { ⌜ IsTask (tableAt (now work)) i c ⌝ }
-    requires { ⌜ m < modes (tableAt (now work)) i ⌝ }
-    requires { ⌜ IsSplit (tableAt (now work)) i x ⌝ }
-    ensures { λ r. ⌜ r .0 ≡ charge (laterOf whole) (tableAt (now (work .entry))) (s .u) (s .a) i m c (moment x) ⌝ }
+    requires { ⌜ IsTask (tableOf (now work)) i c ⌝ }
+    requires { ⌜ m < modes (tableOf (now work)) i ⌝ }
+    requires { ⌜ IsSplit (tableOf (now work)) i x ⌝ }
+    ensures { λ r. ⌜ r .0 ≡ charge (laterOf whole) (tableOf (now (work .entry))) (s .u) (s .a) i m c (moment x) ⌝ }
 {
     let passed = whole_periods(whole, x.periods) * mode_weight(work, s, i, m);
     let rest = reads::wide(rests(work, s, whole, i, m, c, x));
@@ -250,11 +252,11 @@ fn few_charge(
 ) -> Ticks
     requires { ⌜ Lent (now work) ⌝ }
     requires { ⌜ IsSubject (now work) s ⌝ }
-    requires { ⌜ IsTask (tableAt (now work)) i c ⌝ }
-    requires { ⌜ m < modes (tableAt (now work)) i ⌝ }
-    requires { ⌜ IsSplit (tableAt (now work)) i x ⌝ }
+    requires { ⌜ IsTask (tableOf (now work)) i c ⌝ }
+    requires { ⌜ m < modes (tableOf (now work)) i ⌝ }
+    requires { ⌜ IsSplit (tableOf (now work)) i x ⌝ }
     requires { ⌜ x .count < 4 ⌝ }
-    ensures { λ r. ⌜ r .0 ≡ charge (laterOf whole) (tableAt (now (work .entry))) (s .u) (s .a) i m c (moment x) ⌝ }
+    ensures { λ r. ⌜ r .0 ≡ charge (laterOf whole) (tableOf (now (work .entry))) (s .u) (s .a) i m c (moment x) ⌝ }
 {
     let passed = whole_periods(whole, x.periods) * mode_weight(work, s, i, m);
     let rest = reads::wide(few_rests(work, s, whole, i, m, c, x));
@@ -265,10 +267,10 @@ fn few_charge(
 fn charge_cap(work: &[u32; Work::CELLS], s: Subject, i: usize, m: usize, c: usize, x: Split) -> u64
     requires { ⌜ Lent (now work) ⌝ }
     requires { ⌜ IsSubject (now work) s ⌝ }
-    requires { ⌜ IsTask (tableAt (now work)) i c ⌝ }
-    requires { ⌜ m < modes (tableAt (now work)) i ⌝ }
-    requires { ⌜ IsSplit (tableAt (now work)) i x ⌝ }
-    ensures { λ r. ⌜ r ≡ chargeCap (tableAt (now (work .entry))) (s .u) (s .a) i m c (x .periods) ⌝ }
+    requires { ⌜ IsTask (tableOf (now work)) i c ⌝ }
+    requires { ⌜ m < modes (tableOf (now work)) i ⌝ }
+    requires { ⌜ IsSplit (tableOf (now work)) i x ⌝ }
+    ensures { λ r. ⌜ r ≡ chargeCap (tableOf (now (work .entry))) (s .u) (s .a) i m c (x .periods) ⌝ }
 {
     held_back(work, s, i, m, c, x) + (x.periods + 1) * mode_weight(work, s, i, m)
 }
@@ -287,10 +289,10 @@ fn setting_charge(
 ) -> u64
     requires { ⌜ Lent (now work) ⌝ }
     requires { ⌜ IsSubject (now work) s ⌝ }
-    requires { ⌜ IsTask (tableAt (now work)) i c ⌝ }
-    requires { ⌜ m < modes (tableAt (now work)) i ⌝ }
-    requires { ⌜ IsSplit (tableAt (now work)) i x ⌝ }
-    ensures { λ r. ⌜ r ≡ max best (charge (laterOf whole) (tableAt (now (work .entry))) (s .u) (s .a) i m c (moment x)) ⌝ }
+    requires { ⌜ IsTask (tableOf (now work)) i c ⌝ }
+    requires { ⌜ m < modes (tableOf (now work)) i ⌝ }
+    requires { ⌜ IsSplit (tableOf (now work)) i x ⌝ }
+    ensures { λ r. ⌜ r ≡ max best (charge (laterOf whole) (tableOf (now (work .entry))) (s .u) (s .a) i m c (moment x)) ⌝ }
 {
     if x.count < 4 {
         return greater(best, few_charge(work, s, whole, i, m, c, x).0);
@@ -306,9 +308,9 @@ fn setting_charge(
 fn greatest(work: &[u32; Work::CELLS], s: Subject, whole: bool, i: usize, t: Ticks) -> Ticks
     requires { ⌜ Lent (now work) ⌝ }
     requires { ⌜ IsSubject (now work) s ⌝ }
-    requires { ⌜ i < transactions (tableAt (now work)) ⌝ }
+    requires { ⌜ i < transactions (tableOf (now work)) ⌝ }
     requires { ⌜ t .0 ≤ horizon ⌝ }
-    ensures { λ r. ⌜ r .0 ≡ greatest (laterOf whole) (tableAt (now (work .entry))) (s .u) (s .a) i (t .0) ⌝ }
+    ensures { λ r. ⌜ r .0 ≡ greatest (laterOf whole) (tableOf (now (work .entry))) (s .u) (s .a) i (t .0) ⌝ }
 {
     let x = split_of(work, i, t);
     let end = Transaction::MODES * (x.first + x.count);
@@ -334,10 +336,10 @@ pub(crate) fn rivals(
 ) -> Ticks
     requires { ⌜ Lent (now work) ⌝ }
     requires { ⌜ IsSubject (now work) s ⌝ }
-    requires { ⌜ IsTask (tableAt (now work)) (s .u) c ⌝ }
-    requires { ⌜ m < modes (tableAt (now work)) (s .u) ⌝ }
+    requires { ⌜ IsTask (tableOf (now work)) (s .u) c ⌝ }
+    requires { ⌜ m < modes (tableOf (now work)) (s .u) ⌝ }
     requires { ⌜ t .0 ≤ horizon ⌝ }
-    ensures { λ r. ⌜ r .0 ≡ rivals (laterOf whole) (tableAt (now (work .entry))) (s .u) (s .a) m c (t .0) ⌝ }
+    ensures { λ r. ⌜ r .0 ≡ rivals (laterOf whole) (tableOf (now (work .entry))) (s .u) (s .a) m c (t .0) ⌝ }
 {
     let count = reads::transactions(work);
     let mut sum: u64 = 0;

@@ -11,6 +11,7 @@ use row::Transaction;
 ghost use mathlib.Core.Path.{_≡_};
 ghost use mathlib.Core.Bool.{true, false};
 ghost use Prim.Native.Nat.{_+_, _*_, _<_};
+ghost use Rattle.row.specs.Row.{tableOf};
 ghost use Rattle.table.specs.Limits.{modesMost};
 ghost use Rattle.table.specs.Number.{inAll};
 ghost use Rattle.table.specs.Table.{IsTask, transactions, modes};
@@ -18,27 +19,27 @@ ghost use Rattle.analysis.specs.Choice.{most};
 ghost use Rattle.charge.specs.Links.{Below, Dropped, Spare, Idle, NextSetting};
 ghost use Rattle.answers.specs.Parts.{SameTo, LinkedFrom, OthersFrom};
 ghost use Rattle.charge.specs.Weight.{weight, modeWeight};
-ghost use Rattle.answers.specs.Work.{settingsCell, othersCell, Lent, Chosen, Weighs, IsSubject, tableAt};
+ghost use Rattle.answers.specs.Work.{settingsCell, othersCell, Lent, Chosen, Weighs, IsSubject};
 
 // The weight of task j of transaction i in mode m: 0 where it is no rival.
 pub(crate) fn weight(work: &[u32; Work::CELLS], s: Subject, i: usize, m: usize, j: usize) -> u32
     requires { ⌜ Lent (now work) ⌝ }
     requires { ⌜ Weighs (now work) s ⌝ }
-    requires { ⌜ IsTask (tableAt (now work)) i j ⌝ }
-    requires { ⌜ m < modes (tableAt (now work)) i ⌝ }
-    ensures { λ r. ⌜ r ≡ weight (tableAt (now (work .entry))) (s .u) (s .a) i m j ⌝ }
+    requires { ⌜ IsTask (tableOf (now work)) i j ⌝ }
+    requires { ⌜ m < modes (tableOf (now work)) i ⌝ }
+    ensures { λ r. ⌜ r ≡ weight (tableOf (now (work .entry))) (s .u) (s .a) i m j ⌝ }
 {
-    work[Work::WEIGHTS + Table::TASKS * m + (reads::before(work, i) + j)]
+    work[Work::WEIGHTS + Table::TASKS * m + reads::number(work, i, j)]
 }
 
 // Whether no task of transaction i weighs more in mode m than in mode n.
 fn is_below(work: &[u32; Work::CELLS], s: Subject, i: usize, m: usize, n: usize) -> bool
     requires { ⌜ Lent (now work) ⌝ }
     requires { ⌜ Weighs (now work) s ⌝ }
-    requires { ⌜ i < transactions (tableAt (now work)) ⌝ }
-    requires { ⌜ m < modes (tableAt (now work)) i ⌝ }
-    requires { ⌜ n < modes (tableAt (now work)) i ⌝ }
-    ensures { λ r. ⌜ (r ≡ true → Below (tableAt (now (work .entry))) (s .u) (s .a) i m n) ⌝ }
+    requires { ⌜ i < transactions (tableOf (now work)) ⌝ }
+    requires { ⌜ m < modes (tableOf (now work)) i ⌝ }
+    requires { ⌜ n < modes (tableOf (now work)) i ⌝ }
+    ensures { λ r. ⌜ (r ≡ true → Below (tableOf (now (work .entry))) (s .u) (s .a) i m n) ⌝ }
 {
     let count = reads::tasks(work, i);
     let mut j: usize = 0;
@@ -55,9 +56,9 @@ fn is_below(work: &[u32; Work::CELLS], s: Subject, i: usize, m: usize, n: usize)
 fn is_dropped(work: &[u32; Work::CELLS], s: Subject, i: usize, m: usize) -> bool
     requires { ⌜ Lent (now work) ⌝ }
     requires { ⌜ Weighs (now work) s ⌝ }
-    requires { ⌜ i < transactions (tableAt (now work)) ⌝ }
-    requires { ⌜ m < modes (tableAt (now work)) i ⌝ }
-    ensures { λ r. ⌜ (r ≡ true → Dropped (tableAt (now (work .entry))) (s .u) (s .a) i m) ⌝ }
+    requires { ⌜ i < transactions (tableOf (now work)) ⌝ }
+    requires { ⌜ m < modes (tableOf (now work)) i ⌝ }
+    ensures { λ r. ⌜ (r ≡ true → Dropped (tableOf (now (work .entry))) (s .u) (s .a) i m) ⌝ }
 {
     let count = reads::modes(work, i);
     let mut n = m + 1;
@@ -74,10 +75,10 @@ fn is_dropped(work: &[u32; Work::CELLS], s: Subject, i: usize, m: usize) -> bool
 fn is_charged(work: &[u32; Work::CELLS], s: Subject, i: usize, m: usize, c: usize) -> bool
     requires { ⌜ Lent (now work) ⌝ }
     requires { ⌜ Weighs (now work) s ⌝ }
-    requires { ⌜ IsTask (tableAt (now work)) i c ⌝ }
-    requires { ⌜ m < modes (tableAt (now work)) i ⌝ }
-    ensures { λ r. ⌜ (r ≡ true → ¬ (weight (tableAt (now (work .entry))) (s .u) (s .a) i m c ≡ 0)) ⌝ }
-    ensures { λ r. ⌜ (r ≡ false → Spare (tableAt (now (work .entry))) (s .u) (s .a) i m c) ⌝ }
+    requires { ⌜ IsTask (tableOf (now work)) i c ⌝ }
+    requires { ⌜ m < modes (tableOf (now work)) i ⌝ }
+    ensures { λ r. ⌜ (r ≡ true → ¬ (weight (tableOf (now (work .entry))) (s .u) (s .a) i m c ≡ 0)) ⌝ }
+    ensures { λ r. ⌜ (r ≡ false → Spare (tableOf (now (work .entry))) (s .u) (s .a) i m c) ⌝ }
 {
     if weight(work, s, i, m, c) == 0 {
         return false;
@@ -92,11 +93,11 @@ fn is_charged(work: &[u32; Work::CELLS], s: Subject, i: usize, m: usize, c: usiz
 fn link_task(work: &mut [u32; Work::CELLS], s: Subject, k: usize, after: u32) -> u32
     requires { ⌜ Lent (now work) ⌝ }
     requires { ⌜ Weighs (now work) s ⌝ }
-    requires { ⌜ k < inAll (tableAt (now work)) ⌝ }
-    requires { ⌜ NextSetting (tableAt (now work)) (s .u) (s .a) (modesMost * (k + 1)) after ⌝ }
-    requires { ⌜ LinkedFrom (tableAt (now work)) (s .u) (s .a) (k + 1) (now work) ⌝ }
-    ensures { λ r. ⌜ NextSetting (tableAt (now (work .entry))) (s .u) (s .a) (modesMost * k) r ⌝ }
-    ensures { λ _. ⌜ LinkedFrom (tableAt (now (work .entry))) (s .u) (s .a) k (now (work .exit)) ⌝ }
+    requires { ⌜ k < inAll (tableOf (now work)) ⌝ }
+    requires { ⌜ NextSetting (tableOf (now work)) (s .u) (s .a) (modesMost * (k + 1)) after ⌝ }
+    requires { ⌜ LinkedFrom (tableOf (now work)) (s .u) (s .a) (k + 1) (now work) ⌝ }
+    ensures { λ r. ⌜ NextSetting (tableOf (now (work .entry))) (s .u) (s .a) (modesMost * k) r ⌝ }
+    ensures { λ _. ⌜ LinkedFrom (tableOf (now (work .entry))) (s .u) (s .a) k (now (work .exit)) ⌝ }
     ensures { λ _. ⌜ SameTo settingsCell (now (work .entry)) (now (work .exit)) ⌝ }
 {
     let i = reads::owner(&*work, k);
@@ -117,7 +118,7 @@ fn link_task(work: &mut [u32; Work::CELLS], s: Subject, k: usize, after: u32) ->
 fn link_settings(work: &mut [u32; Work::CELLS], s: Subject)
     requires { ⌜ Lent (now work) ⌝ }
     requires { ⌜ Weighs (now work) s ⌝ }
-    ensures { λ _. ⌜ LinkedFrom (tableAt (now (work .entry))) (s .u) (s .a) 0 (now (work .exit)) ⌝ }
+    ensures { λ _. ⌜ LinkedFrom (tableOf (now (work .entry))) (s .u) (s .a) 0 (now (work .exit)) ⌝ }
     ensures { λ _. ⌜ SameTo settingsCell (now (work .entry)) (now (work .exit)) ⌝ }
 {
     let mut k = reads::in_all(&*work);
@@ -132,8 +133,8 @@ fn link_settings(work: &mut [u32; Work::CELLS], s: Subject)
 fn most_mode_weight(work: &[u32; Work::CELLS], s: Subject, i: usize) -> u64
     requires { ⌜ Lent (now work) ⌝ }
     requires { ⌜ Weighs (now work) s ⌝ }
-    requires { ⌜ i < transactions (tableAt (now work)) ⌝ }
-    ensures { λ r. ⌜ r ≡ most (modes (tableAt (now (work .entry))) i) (modeWeight (tableAt (now (work .entry))) (s .u) (s .a) i) ⌝ }
+    requires { ⌜ i < transactions (tableOf (now work)) ⌝ }
+    ensures { λ r. ⌜ r ≡ most (modes (tableOf (now (work .entry))) i) (modeWeight (tableOf (now (work .entry))) (s .u) (s .a) i) ⌝ }
 {
     let count = reads::modes(work, i);
     let mut best: u64 = 0;
@@ -149,8 +150,8 @@ fn most_mode_weight(work: &[u32; Work::CELLS], s: Subject, i: usize) -> u64
 fn is_idle(work: &[u32; Work::CELLS], s: Subject, i: usize) -> bool
     requires { ⌜ Lent (now work) ⌝ }
     requires { ⌜ Weighs (now work) s ⌝ }
-    requires { ⌜ i < transactions (tableAt (now work)) ⌝ }
-    ensures { λ r. ⌜ (r ≡ true → Idle (tableAt (now (work .entry))) (s .u) (s .a) i) ⌝ }
+    requires { ⌜ i < transactions (tableOf (now work)) ⌝ }
+    ensures { λ r. ⌜ (r ≡ true → Idle (tableOf (now (work .entry))) (s .u) (s .a) i) ⌝ }
     ensures { λ r. ⌜ (r ≡ false → ¬ (i ≡ s .u)) ⌝ }
 {
     if i == s.u {
@@ -161,9 +162,9 @@ fn is_idle(work: &[u32; Work::CELLS], s: Subject, i: usize) -> bool
 
 fn link_others(work: &mut [u32; Work::CELLS], s: Subject)
     requires { ⌜ Lent (now work) ⌝ }
-    requires { ⌜ Chosen (tableAt (now work)) s ⌝ }
+    requires { ⌜ Chosen (tableOf (now work)) s ⌝ }
     requires { ⌜ Weighs (now work) s ⌝ }
-    ensures { λ _. ⌜ OthersFrom (tableAt (now (work .entry))) (s .u) (s .a) 0 (now (work .exit)) ⌝ }
+    ensures { λ _. ⌜ OthersFrom (tableOf (now (work .entry))) (s .u) (s .a) 0 (now (work .exit)) ⌝ }
     ensures { λ _. ⌜ SameTo othersCell (now (work .entry)) (now (work .exit)) ⌝ }
 {
     let mut i = reads::transactions(&*work);
@@ -182,10 +183,10 @@ fn link_others(work: &mut [u32; Work::CELLS], s: Subject)
 // The links of work cells that have the weights of the subject.
 pub(crate) fn link(work: &mut [u32; Work::CELLS], s: Subject)
     requires { ⌜ Lent (now work) ⌝ }
-    requires { ⌜ Chosen (tableAt (now work)) s ⌝ }
+    requires { ⌜ Chosen (tableOf (now work)) s ⌝ }
     requires { ⌜ Weighs (now work) s ⌝ }
     ensures { λ _. ⌜ Lent (now (work .exit)) ⌝ }
-    ensures { λ _. ⌜ tableAt (now (work .exit)) ≡ tableAt (now (work .entry)) ⌝ }
+    ensures { λ _. ⌜ tableOf (now (work .exit)) ≡ tableOf (now (work .entry)) ⌝ }
     ensures { λ _. ⌜ IsSubject (now (work .exit)) s ⌝ }
 {
     link_settings(work, s);

@@ -5,20 +5,21 @@ use super::layout::Work;
 use super::reads;
 ghost use mathlib.Core.Path.{_≡_};
 ghost use Prim.Native.Nat.{_<_, _*_, _/_};
+ghost use Rattle.row.specs.Row.{tableOf};
 ghost use Rattle.table.specs.Table.{IsTask, transactions, period, modes, time};
 ghost use Rattle.analysis.specs.Choice.{when};
 ghost use Rattle.analysis.specs.Rival.{urgent?};
 ghost use Rattle.analysis.specs.Overload.{load, counts?, mostLoad, frameDemand, overload?};
 ghost use Rattle.answers.specs.Lent.{tested};
-ghost use Rattle.answers.specs.Work.{Lent, IsSubject, tableAt};
+ghost use Rattle.answers.specs.Work.{Lent, IsSubject};
 
 // The time of task j, if its priority is at least the subject's.
 fn urgent_time(work: &[u32; Work::CELLS], s: Subject, i: usize, m: usize, j: usize) -> u64
     requires { ⌜ Lent (now work) ⌝ }
     requires { ⌜ IsSubject (now work) s ⌝ }
-    requires { ⌜ IsTask (tableAt (now work)) i j ⌝ }
-    requires { ⌜ m < modes (tableAt (now work)) i ⌝ }
-    ensures { λ r. ⌜ r ≡ when (urgent? (tableAt (now (work .entry))) (s .u) (s .a) i j) (time (tableAt (now (work .entry))) i m j) ⌝ }
+    requires { ⌜ IsTask (tableOf (now work)) i j ⌝ }
+    requires { ⌜ m < modes (tableOf (now work)) i ⌝ }
+    ensures { λ r. ⌜ r ≡ when (urgent? (tableOf (now (work .entry))) (s .u) (s .a) i j) (time (tableOf (now (work .entry))) i m j) ⌝ }
 {
     if reads::priority(work, i, j) < s.priority {
         0
@@ -31,9 +32,9 @@ fn urgent_time(work: &[u32; Work::CELLS], s: Subject, i: usize, m: usize, j: usi
 fn load(work: &[u32; Work::CELLS], s: Subject, i: usize, m: usize) -> u64
     requires { ⌜ Lent (now work) ⌝ }
     requires { ⌜ IsSubject (now work) s ⌝ }
-    requires { ⌜ i < transactions (tableAt (now work)) ⌝ }
-    requires { ⌜ m < modes (tableAt (now work)) i ⌝ }
-    ensures { λ r. ⌜ r ≡ load (tableAt (now (work .entry))) (s .u) (s .a) i m ⌝ }
+    requires { ⌜ i < transactions (tableOf (now work)) ⌝ }
+    requires { ⌜ m < modes (tableOf (now work)) i ⌝ }
+    ensures { λ r. ⌜ r ≡ load (tableOf (now (work .entry))) (s .u) (s .a) i m ⌝ }
 {
     let count = reads::tasks(work, i);
     let mut sum: u64 = 0;
@@ -49,9 +50,9 @@ fn load(work: &[u32; Work::CELLS], s: Subject, i: usize, m: usize) -> u64
 fn counted_load(work: &[u32; Work::CELLS], s: Subject, i: usize, m: usize) -> u64
     requires { ⌜ Lent (now work) ⌝ }
     requires { ⌜ IsSubject (now work) s ⌝ }
-    requires { ⌜ i < transactions (tableAt (now work)) ⌝ }
-    requires { ⌜ m < modes (tableAt (now work)) i ⌝ }
-    ensures { λ r. ⌜ r ≡ when (counts? (tableAt (now (work .entry))) (s .u) (s .a) i m) (load (tableAt (now (work .entry))) (s .u) (s .a) i m) ⌝ }
+    requires { ⌜ i < transactions (tableOf (now work)) ⌝ }
+    requires { ⌜ m < modes (tableOf (now work)) i ⌝ }
+    ensures { λ r. ⌜ r ≡ when (counts? (tableOf (now (work .entry))) (s .u) (s .a) i m) (load (tableOf (now (work .entry))) (s .u) (s .a) i m) ⌝ }
 {
     if i == s.u {
         if reads::time(work, s.u, m, s.a) == 0 {
@@ -65,8 +66,8 @@ fn counted_load(work: &[u32; Work::CELLS], s: Subject, i: usize, m: usize) -> u6
 fn most_load(work: &[u32; Work::CELLS], s: Subject, i: usize) -> u64
     requires { ⌜ Lent (now work) ⌝ }
     requires { ⌜ IsSubject (now work) s ⌝ }
-    requires { ⌜ i < transactions (tableAt (now work)) ⌝ }
-    ensures { λ r. ⌜ r ≡ mostLoad (tableAt (now (work .entry))) (s .u) (s .a) i ⌝ }
+    requires { ⌜ i < transactions (tableOf (now work)) ⌝ }
+    ensures { λ r. ⌜ r ≡ mostLoad (tableOf (now (work .entry))) (s .u) (s .a) i ⌝ }
 {
     let count = reads::modes(work, i);
     let mut best: u64 = 0;
@@ -82,8 +83,8 @@ fn most_load(work: &[u32; Work::CELLS], s: Subject, i: usize) -> u64
 fn share(work: &[u32; Work::CELLS], s: Subject, i: usize) -> u64
     requires { ⌜ Lent (now work) ⌝ }
     requires { ⌜ IsSubject (now work) s ⌝ }
-    requires { ⌜ i < transactions (tableAt (now work)) ⌝ }
-    ensures { λ r. ⌜ r ≡ tableAt (now (work .entry)) .frame / period (tableAt (now (work .entry))) i * mostLoad (tableAt (now (work .entry))) (s .u) (s .a) i ⌝ }
+    requires { ⌜ i < transactions (tableOf (now work)) ⌝ }
+    ensures { λ r. ⌜ r ≡ tableOf (now (work .entry)) .frame / period (tableOf (now (work .entry))) i * mostLoad (tableOf (now (work .entry))) (s .u) (s .a) i ⌝ }
 {
     reads::frame(work) / reads::period(work, i) * most_load(work, s, i)
 }
@@ -91,7 +92,7 @@ fn share(work: &[u32; Work::CELLS], s: Subject, i: usize) -> u64
 fn frame_demand(work: &[u32; Work::CELLS], s: Subject) -> u64
     requires { ⌜ Lent (now work) ⌝ }
     requires { ⌜ IsSubject (now work) s ⌝ }
-    ensures { λ r. ⌜ r ≡ frameDemand (tableAt (now (work .entry))) (s .u) (s .a) ⌝ }
+    ensures { λ r. ⌜ r ≡ frameDemand (tableOf (now (work .entry))) (s .u) (s .a) ⌝ }
 {
     let count = reads::transactions(work);
     let mut sum: u64 = 0;
@@ -106,7 +107,7 @@ fn frame_demand(work: &[u32; Work::CELLS], s: Subject) -> u64
 pub(crate) fn is_overload(work: &[u32; Work::CELLS], s: Subject) -> bool
     requires { ⌜ Lent (now work) ⌝ }
     requires { ⌜ IsSubject (now work) s ⌝ }
-    ensures { λ r. ⌜ r ≡ tested (overload? (tableAt (now (work .entry))) (s .u) (s .a)) ⌝ }
+    ensures { λ r. ⌜ r ≡ tested (overload? (tableOf (now (work .entry))) (s .u) (s .a)) ⌝ }
 {
     reads::frame(work) < frame_demand(work, s)
 }

@@ -14,6 +14,7 @@ use super::reads;
 ghost use mathlib.Core.Path.{_≡_};
 ghost use lib.IntN.{pos, _+ℤ_, _-ℤ_, _*ℤ_};
 ghost use Prim.Native.Nat.{_-_, _<_, _≤_, _^_};
+ghost use Rattle.row.specs.Row.{tableOf};
 ghost use Rattle.table.specs.Limits.{horizon};
 ghost use Rattle.table.specs.Table.{modes, tasks};
 ghost use Rattle.periods.specs.Charge.{imposed};
@@ -24,7 +25,7 @@ ghost use Rattle.analysis.specs.Order.{walkOrder};
 ghost use Rattle.analysis.specs.Walk.{walkJobs, walkTurn, walkTurns};
 ghost use Rattle.answers.specs.Lent.{tested};
 ghost use Rattle.answers.specs.Turn.{IsInstant, Near, Lasts, walked, turnsFrom, modeTurns};
-ghost use Rattle.answers.specs.Work.{Lent, IsSubject, tableAt};
+ghost use Rattle.answers.specs.Work.{Lent, IsSubject};
 
 // The evaluations made so far, and the greatest response so far.
 pub(crate) struct Walk {
@@ -80,9 +81,9 @@ fn job(first: JobNumber, n: u64) -> JobNumber
 fn is_candidate(work: &[u32; Work::CELLS], s: Subject, m: usize, c: usize) -> bool
     requires { ⌜ Lent (now work) ⌝ }
     requires { ⌜ IsSubject (now work) s ⌝ }
-    requires { ⌜ m < modes (tableAt (now work)) (s .u) ⌝ }
-    requires { ⌜ c < tasks (tableAt (now work)) (s .u) ⌝ }
-    ensures { λ r. ⌜ r ≡ tested (candidate? (tableAt (now (work .entry))) (s .u) (s .a) m c) ⌝ }
+    requires { ⌜ m < modes (tableOf (now work)) (s .u) ⌝ }
+    requires { ⌜ c < tasks (tableOf (now work)) (s .u) ⌝ }
+    ensures { λ r. ⌜ r ≡ tested (candidate? (tableOf (now (work .entry))) (s .u) (s .a) m c) ⌝ }
 {
     if c == s.a {
         return true;
@@ -112,11 +113,11 @@ impl Walk {
     ) -> Walked
         requires { ⌜ Lent (now work) ⌝ }
         requires { ⌜ IsSubject (now work) s ⌝ }
-        requires { ⌜ IsInstant (tableAt (now work)) (s .u) (s .a) (x .mode) (x .candidate) x ⌝ }
-        requires { ⌜ Lasts (tableAt (now work)) (s .u) (s .a) (x .mode) (x .candidate) jobs ⌝ }
+        requires { ⌜ IsInstant (tableOf (now work)) (s .u) (s .a) (x .mode) (x .candidate) x ⌝ }
+        requires { ⌜ Lasts (tableOf (now work)) (s .u) (s .a) (x .mode) (x .candidate) jobs ⌝ }
         requires { ⌜ n < jobs ⌝ }
         requires { ⌜ self .used ≤ budget ⌝ }
-        ensures { λ r. ⌜ r ≡ walked budget (walkJobs imposed (tableAt (now (work .entry))) (s .u) (s .a) (x .mode) (x .candidate) 1 n (budget - self .used) (self .best)) ⌝ }
+        ensures { λ r. ⌜ r ≡ walked budget (walkJobs imposed (tableOf (now (work .entry))) (s .u) (s .a) (x .mode) (x .candidate) 1 n (budget - self .used) (self .best)) ⌝ }
     {
         let first = x.first;
         let p = job(first, n);
@@ -141,10 +142,10 @@ impl Walk {
     ) -> Walked
         requires { ⌜ Lent (now work) ⌝ }
         requires { ⌜ IsSubject (now work) s ⌝ }
-        requires { ⌜ IsInstant (tableAt (now work)) (s .u) (s .a) (x .mode) (x .candidate) x ⌝ }
-        requires { ⌜ Lasts (tableAt (now work)) (s .u) (s .a) (x .mode) (x .candidate) jobs ⌝ }
+        requires { ⌜ IsInstant (tableOf (now work)) (s .u) (s .a) (x .mode) (x .candidate) x ⌝ }
+        requires { ⌜ Lasts (tableOf (now work)) (s .u) (s .a) (x .mode) (x .candidate) jobs ⌝ }
         requires { ⌜ self .used ≤ budget ⌝ }
-        ensures { λ r. ⌜ r ≡ walked budget (walkJobs imposed (tableAt (now (work .entry))) (s .u) (s .a) (x .mode) (x .candidate) jobs 0 (budget - self .used) (self .best)) ⌝ }
+        ensures { λ r. ⌜ r ≡ walked budget (walkJobs imposed (tableOf (now (work .entry))) (s .u) (s .a) (x .mode) (x .candidate) jobs 0 (budget - self .used) (self .best)) ⌝ }
     {
         let mut state = self;
         let mut n: u64 = 0;
@@ -163,9 +164,9 @@ impl Walk {
     fn turn(self, work: &[u32; Work::CELLS], s: Subject, m: usize, c: usize, budget: u32) -> Walked
         requires { ⌜ Lent (now work) ⌝ }
         requires { ⌜ IsSubject (now work) s ⌝ }
-        requires { ⌜ Setting (tableAt (now work)) (s .u) (s .a) m c ⌝ }
+        requires { ⌜ Setting (tableOf (now work)) (s .u) (s .a) m c ⌝ }
         requires { ⌜ self .used ≤ budget ⌝ }
-        ensures { λ r. ⌜ r ≡ walked budget (walkTurn imposed (tableAt (now (work .entry))) (s .u) (s .a) (record { mode = m; candidate = c }) (budget - self .used) (self .best)) ⌝ }
+        ensures { λ r. ⌜ r ≡ walked budget (walkTurn imposed (tableOf (now (work .entry))) (s .u) (s .a) (record { mode = m; candidate = c }) (budget - self .used) (self .best)) ⌝ }
     {
         let x = chains::instant_of(work, s, m, c);
         match chains::busy_chain(work, s, x, budget, self.used) {
@@ -195,11 +196,11 @@ impl Walk {
     ) -> Walked
         requires { ⌜ Lent (now work) ⌝ }
         requires { ⌜ IsSubject (now work) s ⌝ }
-        requires { ⌜ m < modes (tableAt (now work)) (s .u) ⌝ }
-        requires { ⌜ Runs (tableAt (now work)) (s .u) m (s .a) ⌝ }
-        requires { ⌜ c < tasks (tableAt (now work)) (s .u) ⌝ }
+        requires { ⌜ m < modes (tableOf (now work)) (s .u) ⌝ }
+        requires { ⌜ Runs (tableOf (now work)) (s .u) m (s .a) ⌝ }
+        requires { ⌜ c < tasks (tableOf (now work)) (s .u) ⌝ }
         requires { ⌜ self .used ≤ budget ⌝ }
-        ensures { λ r. ⌜ r ≡ walked budget (walkTurns imposed (tableAt (now (work .entry))) (s .u) (s .a) (turnsFrom (tableAt (now (work .entry))) (s .u) (s .a) m c 1) (budget - self .used) (self .best)) ⌝ }
+        ensures { λ r. ⌜ r ≡ walked budget (walkTurns imposed (tableOf (now (work .entry))) (s .u) (s .a) (turnsFrom (tableOf (now (work .entry))) (s .u) (s .a) m c 1) (budget - self .used) (self .best)) ⌝ }
     {
         if is_candidate(work, s, m, c) {
             self.turn(work, s, m, c, budget)
@@ -212,9 +213,9 @@ impl Walk {
     fn mode(self, work: &[u32; Work::CELLS], s: Subject, m: usize, budget: u32) -> Walked
         requires { ⌜ Lent (now work) ⌝ }
         requires { ⌜ IsSubject (now work) s ⌝ }
-        requires { ⌜ m < modes (tableAt (now work)) (s .u) ⌝ }
+        requires { ⌜ m < modes (tableOf (now work)) (s .u) ⌝ }
         requires { ⌜ self .used ≤ budget ⌝ }
-        ensures { λ r. ⌜ r ≡ walked budget (walkTurns imposed (tableAt (now (work .entry))) (s .u) (s .a) (modeTurns (tableAt (now (work .entry))) (s .u) (s .a) m) (budget - self .used) (self .best)) ⌝ }
+        ensures { λ r. ⌜ r ≡ walked budget (walkTurns imposed (tableOf (now (work .entry))) (s .u) (s .a) (modeTurns (tableOf (now (work .entry))) (s .u) (s .a) m) (budget - self .used) (self .best)) ⌝ }
     {
         if reads::time(work, s.u, m, s.a) == 0 {
             return Walked::Through(self);
@@ -238,7 +239,7 @@ impl Walk {
         requires { ⌜ Lent (now work) ⌝ }
         requires { ⌜ IsSubject (now work) s ⌝ }
         requires { ⌜ self .used ≤ budget ⌝ }
-        ensures { λ r. ⌜ r ≡ walked budget (walkTurns imposed (tableAt (now (work .entry))) (s .u) (s .a) (walkOrder (tableAt (now (work .entry))) (s .u) (s .a)) (budget - self .used) (self .best)) ⌝ }
+        ensures { λ r. ⌜ r ≡ walked budget (walkTurns imposed (tableOf (now (work .entry))) (s .u) (s .a) (walkOrder (tableOf (now (work .entry))) (s .u) (s .a)) (budget - self .used) (self .best)) ⌝ }
     {
         let count = reads::modes(work, s.u);
         let mut state = self;

@@ -28,7 +28,7 @@ held-of-requires c κs = search needs
 first-job-requires : tie.Need-first-job-requires
 first-job-requires c κs =
     let (lent, (subject, setting)) = c .before .before .before .before .before .before .pre in
-    omega (arith, c .held-of .ensures, held-of-lt (lent .holds .kept) (subject .chosen .isTask) (c .before .before .before .before .before .before .args .c))
+    omega (arith, c .held-of .ensures, held-of-lt (lent .table .kept) (subject .chosen .isTask) (c .before .before .before .before .before .before .args .c))
 
 returns : tie.Need-returns
 unfolding firstJob

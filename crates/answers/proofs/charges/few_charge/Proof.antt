@@ -18,7 +18,7 @@ mul-passed c =
     let s = c .before .before in
     let (lent, (subject, (isTask, (mode, (split, small))))) = s .pre in
     rw (c .before .whole-periods .ensures, c .mode-weight .ensures)
-    (omega (arith, whole-le (lent .holds .kept) split mode (s .args .s .u) (s .args .s .a) (s .args .whole)))
+    (omega (arith, whole-le (lent .table .kept) split mode (s .args .s .u) (s .args .s .a) (s .args .whole)))
 
 few-rests-requires : tie.Need-few-rests-requires
 few-rests-requires c κs = search needs
@@ -37,19 +37,19 @@ returns c =
     let (lent, (subject, (isTask, (mode, (split, small))))) = s .pre in
     let load = c .before .before .before in
     rw (c .held-back .ensures, load .before .whole-periods .ensures, load .mode-weight .ensures, c .before .wide .ensures, c .before .before .few-rests .ensures)
-    (sym (charge-at (lent .holds .kept) split (s .args .whole) (s .args .s .u) (s .args .s .a) (s .args .m) (s .args .c)))
+    (sym (charge-at (lent .table .kept) split (s .args .whole) (s .args .s .u) (s .args .s .a) (s .args .m) (s .args .c)))
 
 add-t11 : tie.Need-add-t11
 add-t11 c =
     let s = c .before .before .before .before .before in
     let (lent, (subject, (isTask, (mode, (split, small))))) = s .pre in
-    omega (arith, returns c, charge-le (lent .holds .kept) (s .args .whole) (split .within) (s .args .s .u) (s .args .s .a) (isTask .owner) mode (s .args .c))
+    omega (arith, returns c, charge-le (lent .table .kept) (s .args .whole) (split .within) (s .args .s .u) (s .args .s .a) (isTask .owner) mode (s .args .c))
 
 add-t13 : tie.Need-add-t13
 add-t13 c =
     let s = c .before .before .before .before .before in
     let (lent, (subject, (isTask, (mode, (split, small))))) = s .pre in
-    omega (arith, returns c, charge-le (lent .holds .kept) (s .args .whole) (split .within) (s .args .s .u) (s .args .s .a) (isTask .owner) mode (s .args .c))
+    omega (arith, returns c, charge-le (lent .table .kept) (s .args .whole) (split .within) (s .args .s .u) (s .args .s .a) (isTask .owner) mode (s .args .c))
 
 pub few-charge-spec : {M : Type 1} → statement M
 few-charge-spec =

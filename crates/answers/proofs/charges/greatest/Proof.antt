@@ -4,30 +4,30 @@ use borrow.Author.Needs.{needs}
 use mathlib.Core.Path.{ap, _∙_}
 use Prim.Native.Nat.{_+_, _-_, _/_, _%_, _≤_}
 use native.Mathlib.Omega.{arith}
+use Rattle.row.specs.Row.{tableOf}
 use Rattle.table.specs.Limits.{modesMost, tasksInAll}
 use Rattle.analysis.specs.Charge.{greatest}
 use Rattle.charge.specs.Later.{laterOf}
 use Rattle.answers.specs.Split.{moment}
-use Rattle.answers.specs.Work.{tableAt}
 use Rattle.charge.proofs.Along.{SettingAt, setting-at, end-le, Along, along-first, along-next, along-last}
 use Rattle.answers.proofs.Readings.{first-setting, next-setting}
 use Rattle.answers.proofs.charges.greatest.Statement.{statement}
 use Rattle.answers.proofs.charges.greatest.Tie as tie
 
 abbrev Inv-loop : tie.InvT-loop
-Inv-loop work s whole i x end best₀ z₀ best z = Along whole (tableAt work) (s .u) (s .a) i (moment x) best z
+Inv-loop work s whole i x end best₀ z₀ best z = Along whole (tableOf work) (s .u) (s .a) i (moment x) best z
 
 abbrev μ-loop : tie.MeasureT-loop
 μ-loop work s whole i x end best₀ z₀ best z = end - z
 
 split-of-requires : tie.Need-split-of-requires Inv-loop μ-loop
-split-of-requires c κs = (c .pre .0 .holds, c .pre .1 .1)
+split-of-requires c κs = (c .pre .0 .table, c .pre .1 .1)
 
 -- the places read lie within the cells
 few : (c : tie.After-split-of Inv-loop μ-loop) → c .split-of .result .first + c .split-of .result .count ≤ tasksInAll
 few c =
     let split = c .split-of .ensures .isSplit in
-    omega (arith, split .first, split .count, end-le (split .owner) (c .before .pre .0 .holds .kept))
+    omega (arith, split .first, split .count, end-le (split .owner) (c .before .pre .0 .table .kept))
 
 add-end : tie.Need-add-end Inv-loop μ-loop
 add-end c = omega (arith, few (c .before))
@@ -56,13 +56,13 @@ loop-holds c =
     let (lent, (subject, rest)) = d .before .pre in
     let split = d .split-of .ensures .isSplit in
     rw (c .index .ensures)
-    (along-first (lent .holds .kept) (d .before .args .whole) (split .owner) (moment (d .split-of .result)) (first-setting subject (lent .holds .kept) split))
+    (along-first (lent .table .kept) (d .before .args .whole) (split .owner) (moment (d .split-of .result)) (first-setting subject (lent .table .kept) split))
 
 -- the setting that the loop is at
 at : (c : tie.After-struct-known3 Inv-loop μ-loop) →
     let d = c .before .before .before .before .before .before .before in
     let z = c .before .before .loop .z in
-    SettingAt (tableAt (d .before .args .work .now)) (d .before .args .i) z (z % modesMost) (z / modesMost - d .split-of .result .first)
+    SettingAt (tableOf (d .before .args .work .now)) (d .before .args .i) z (z % modesMost) (z / modesMost - d .split-of .result .first)
 at c =
     let d = c .before .before .before .before .before .before .before in
     let split = d .split-of .ensures .isSplit in
@@ -109,15 +109,15 @@ loop-again c =
     let along = b .before .before .loop .inv in
     let next = next-setting subject (at b) (along .charged _ _ (at b) .mode) in
     rw (c .before .before .setting-charge .ensures, c .index2 .ensures)
-    (along-next (lent .holds .kept) (d .before .args .whole) (d .split-of .ensures .isSplit .owner) (moment (d .split-of .result)) along (at b) next)
+    (along-next (lent .table .kept) (d .before .args .whole) (d .split-of .ensures .isSplit .owner) (moment (d .split-of .result)) along (at b) next)
 
 returns : tie.Need-returns Inv-loop μ-loop
 returns c =
     let d = c .before .before .before .before .before .before in
     let s = d .before in
     let split = d .split-of .ensures in
-    along-last (s .pre .0 .holds .kept) (s .args .whole) (split .isSplit .owner) (moment (d .split-of .result)) (c .before .loop .inv) (omega (arith, split .isSplit .first, split .isSplit .count))
-    ∙ ap (greatest (laterOf (s .args .whole)) (tableAt (s .args .work .now)) (s .args .s .u) (s .args .s .a) (s .args .i)) (split .at)
+    along-last (s .pre .0 .table .kept) (s .args .whole) (split .isSplit .owner) (moment (d .split-of .result)) (c .before .loop .inv) (omega (arith, split .isSplit .first, split .isSplit .count))
+    ∙ ap (greatest (laterOf (s .args .whole)) (tableOf (s .args .work .now)) (s .args .s .u) (s .args .s .a) (s .args .i)) (split .at)
 
 pub greatest-spec : {M : Type 1} → statement M
 greatest-spec =

@@ -51,13 +51,13 @@ mul-result : tie.Need-mul-result
 mul-result c =
     let s = c .before .before .before .before .before in
     let (lent, (subject, (isTask, (mode, split)))) = s .pre in
-    omega (arith, c .wide2 .ensures, sum-at lent split subject mode isTask, held-back-le (lent .holds .kept) (s .args .s .u) (s .args .s .a) (isTask .owner) mode (s .args .c))
+    omega (arith, c .wide2 .ensures, sum-at lent split subject mode isTask, held-back-le (lent .table .kept) (s .args .s .u) (s .args .s .a) (isTask .owner) mode (s .args .c))
 
 add-result : tie.Need-add-result
 add-result c =
     let s = c .before .before .before .before .before in
     let (lent, (subject, (isTask, (mode, split)))) = s .pre in
-    omega (arith, c .before .before .wide .ensures, c .wide2 .ensures, sum-at lent split subject mode isTask, held-back-le (lent .holds .kept) (s .args .s .u) (s .args .s .a) (isTask .owner) mode (s .args .c))
+    omega (arith, c .before .before .wide .ensures, c .wide2 .ensures, sum-at lent split subject mode isTask, held-back-le (lent .table .kept) (s .args .s .u) (s .args .s .a) (isTask .owner) mode (s .args .c))
 
 returns : tie.Need-returns
 returns c =

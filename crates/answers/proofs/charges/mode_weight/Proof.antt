@@ -15,17 +15,17 @@ add-wide c = search needs
 add-wide-2 : tie.Need-add-wide-2
 add-wide-2 c =
     let pre = c .pre in
-    omega (arith, pre .0 .holds .kept .fewTransactions, modes-few (pre .0 .holds .kept) (pre .1 .1 .0))
+    omega (arith, pre .0 .table .kept .fewTransactions, modes-few (pre .0 .table .kept) (pre .1 .1 .0))
 
 mul-wide-2 : tie.Need-mul-wide-2
 mul-wide-2 c =
     let pre = c .pre in
-    omega (arith, pre .0 .holds .kept .fewTransactions, modes-few (pre .0 .holds .kept) (pre .1 .1 .0))
+    omega (arith, pre .0 .table .kept .fewTransactions, modes-few (pre .0 .table .kept) (pre .1 .1 .0))
 
 element-copy-out-wide : tie.Need-element-copy-out-wide
 element-copy-out-wide c =
     let pre = c .pre in
-    omega (arith, pre .0 .holds .kept .fewTransactions, modes-few (pre .0 .holds .kept) (pre .1 .1 .0))
+    omega (arith, pre .0 .table .kept .fewTransactions, modes-few (pre .0 .table .kept) (pre .1 .1 .0))
 
 wide-requires : tie.Need-wide-requires
 wide-requires c κs = search needs

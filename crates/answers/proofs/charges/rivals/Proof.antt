@@ -5,24 +5,25 @@ use mathlib.Core.Path.{_≡_}
 use Prim.Native.Nat.{_+_, _-_, _<_}
 use native.Mathlib.Omega.{arith}
 use lib.ListN.{getD}
+use Rattle.row.specs.Row.{tableOf}
 use Rattle.table.specs.Limits.{transactionsMost}
 use Rattle.table.specs.Table.{transactions}
 use Rattle.analysis.specs.Charge.{others, rivals}
 use Rattle.charge.specs.Links.{NextOther}
-use Rattle.answers.specs.Work.{othersCell, tableAt}
+use Rattle.answers.specs.Work.{othersCell}
 use Rattle.charge.proofs.Ranges.{rivals-lt}
 use Rattle.charge.proofs.Along.{Others, others-first, others-few, others-next}
 use Rattle.answers.proofs.charges.rivals.Statement.{statement}
 use Rattle.answers.proofs.charges.rivals.Tie as tie
 
 abbrev Inv-loop : tie.InvT-loop
-Inv-loop work s whole m c t count sum₀ i₀ sum i = Others whole (tableAt work) (s .u) (s .a) (t .0) sum i
+Inv-loop work s whole m c t count sum₀ i₀ sum i = Others whole (tableOf work) (s .u) (s .a) (t .0) sum i
 
 abbrev μ-loop : tie.MeasureT-loop
 μ-loop work s whole m c t count sum₀ i₀ sum i = count - i
 
 transactions-requires : tie.Need-transactions-requires Inv-loop μ-loop
-transactions-requires c κs = c .pre .0 .holds
+transactions-requires c κs = tt
 
 element-copy-out-index : tie.Need-element-copy-out-index Inv-loop μ-loop
 element-copy-out-index c = omega arith
@@ -38,7 +39,7 @@ loop-holds c =
 -- the places read lie within the cells
 few : (c : tie.After-greatest Inv-loop μ-loop) → c .before .before .loop .i < transactionsMost
 few c =
-    omega (arith, c .before .before .before .before .before .transactions .ensures, c .before .before .before .before .before .before .pre .0 .holds .kept .fewTransactions)
+    omega (arith, c .before .before .before .before .before .transactions .ensures, c .before .before .before .before .before .before .pre .0 .table .kept .fewTransactions)
 
 greatest-requires : tie.Need-greatest-requires Inv-loop μ-loop
 greatest-requires c κs =
@@ -48,7 +49,7 @@ greatest-requires c κs =
 add-sum : tie.Need-add-sum Inv-loop μ-loop
 add-sum c =
     let s = c .before .before .before .before .before .before .before in
-    let few = others-few (s .args .whole) (s .args .t .0) (c .before .before .before .loop .inv) (s .pre .0 .holds .kept) (s .pre .1 .1 .1 .1) in
+    let few = others-few (s .args .whole) (s .args .t .0) (c .before .before .before .loop .inv) (s .pre .0 .table .kept) (s .pre .1 .1 .1 .1) in
     omega (arith, few (omega (arith, c .before .before .before .before .before .before .transactions .ensures)), c .before .greatest .ensures)
 
 add-index : tie.Need-add-index Inv-loop μ-loop
@@ -67,7 +68,7 @@ element-copy-out-index-2 c = omega (arith, few (c .before))
 next :
     (c : tie.After-greatest Inv-loop μ-loop)
     → let s = c .before .before .before .before .before .before in
-    NextOther (tableAt (s .args .work .now)) (s .args .s .u) (s .args .s .a) (c .before .before .loop .i + 1) (getD (s .args .work .now) (othersCell + (c .before .before .loop .i + 1)) 0)
+    NextOther (tableOf (s .args .work .now)) (s .args .s .u) (s .args .s .a) (c .before .before .loop .i + 1) (getD (s .args .work .now) (othersCell + (c .before .before .loop .i + 1)) 0)
 next c = c .before .before .before .before .before .before .pre .1 .0 .others (c .before .before .loop .i + 1) (omega (arith, c .before .before .before .before .before .transactions .ensures))
 
 index-requires-2 : tie.Need-index-requires-2 Inv-loop μ-loop
@@ -85,7 +86,7 @@ loop-again c =
 split-of-requires : tie.Need-split-of-requires Inv-loop μ-loop
 split-of-requires c κs =
     let pre = c .before .before .before .before .before .pre in
-    (pre .0 .holds, (pre .1 .1 .0 .owner, pre .1 .1 .1 .1))
+    (pre .0 .table, (pre .1 .1 .0 .owner, pre .1 .1 .1 .1))
 
 charge-requires : tie.Need-charge-requires Inv-loop μ-loop
 charge-requires c κs =
@@ -98,13 +99,13 @@ returns c =
     let charges = c .before .before .before .before .loop .inv in
     let charged = c .before .charge .ensures in
     let at = c .before .before .split-of .ensures .at in
-    let all : c .before .before .before .before .loop .i ≡ transactions (tableAt (c .before .before .before .before .before .before .before .before .args .work .now)) = omega (arith, charges .within, c .before .before .before .before .before .before .before .transactions .ensures) in
+    let all : c .before .before .before .before .loop .i ≡ transactions (tableOf (c .before .before .before .before .before .before .before .before .args .work .now)) = omega (arith, charges .within, c .before .before .before .before .before .before .before .transactions .ensures) in
     cc (charges .sum)
 
 add-t23 : tie.Need-add-t23 Inv-loop μ-loop
 add-t23 c =
     let s = c .before .before .before .before .before .before .before .before in
-    let few = rivals-lt (s .pre .0 .holds .kept) (s .args .whole) (s .pre .1 .1 .1 .1) (s .args .s .u) (s .args .s .a) (s .pre .1 .1 .0 .owner) (s .pre .1 .1 .1 .0) in
+    let few = rivals-lt (s .pre .0 .table .kept) (s .args .whole) (s .pre .1 .1 .1 .1) (s .args .s .u) (s .args .s .a) (s .pre .1 .1 .0 .owner) (s .pre .1 .1 .1 .0) in
     omega (arith, returns c, few (s .args .c))
 
 pub rivals-spec : {M : Type 1} → statement M

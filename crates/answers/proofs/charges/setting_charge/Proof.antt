@@ -26,7 +26,7 @@ returns-2 c =
     omega (
       arith,
       c .before .charge-cap .ensures,
-      charge-at-most (lent .holds .kept) split (s .args .whole) (s .args .s .u) (s .args .s .a) (s .args .m) (s .args .c),
+      charge-at-most (lent .table .kept) split (s .args .whole) (s .args .s .u) (s .args .s .a) (s .args .m) (s .args .c),
     )
 
 charge-requires : tie.Need-charge-requires

@@ -13,10 +13,10 @@ abbrev μ-loop : tie.MeasureT-loop
 μ-loop work s i m count n₀ n = count - n
 
 modes-requires : tie.Need-modes-requires Inv-loop μ-loop
-modes-requires c κs = (c .pre .0 .holds, c .pre .1 .1 .0)
+modes-requires c κs = (c .pre .0 .table, c .pre .1 .1 .0)
 
 add-n : tie.Need-add-n Inv-loop μ-loop
-add-n c = omega (arith, modes-few (c .before .pre .0 .holds .kept) (c .before .pre .1 .1 .0))
+add-n c = omega (arith, modes-few (c .before .pre .0 .table .kept) (c .before .pre .1 .1 .0))
 
 loop-holds : tie.Need-loop-holds Inv-loop μ-loop
 loop-holds c = omega arith

@@ -2,8 +2,9 @@
 -- nothing.
 use mathlib.Core.Path.{subst, sym, _∙_}
 use native.Mathlib.Omega.{arith}
+use Rattle.row.specs.Row.{tableOf}
 use Rattle.table.specs.Table.{Table}
-use Rattle.answers.specs.Work.{tableAt, Chosen}
+use Rattle.answers.specs.Work.{Chosen}
 use Rattle.answers.specs.Parts.{OthersFrom}
 use Rattle.answers.proofs.Filling.{same-less}
 use Rattle.answers.proofs.Linking.{weighs-same, linked-same, linked-subject}
@@ -33,8 +34,8 @@ returns c =
       now,
       (
         table ∙ e,
-        linked-subject work (tableAt (x .args .work .now)) s (table ∙ e) (x .pre .1 .0) still
-            (linked-same (x .pre .0 .holds .kept) (s .u) (s .a) same linked)
+        linked-subject work (tableOf (x .args .work .now)) s (table ∙ e) (x .pre .1 .0) still
+            (linked-same (x .pre .0 .table .kept) (s .u) (s .a) same linked)
             (subst (λ (t : Table). OthersFrom t (s .u) (s .a) 0 work) e others),
       ),
     )

@@ -6,10 +6,11 @@ use Prim.Native.Nat.{ℕ, _+_, _-_, _≤_}
 use native.Mathlib.Omega.{arith}
 use borrow.Author.Tests.{not-true, not-false}
 use lib.ListN.{set}
+use Rattle.row.specs.Row.{tableOf}
 use Rattle.table.specs.Table.{Table, transactions as transactionsIn}
 use Rattle.table.specs.Limits.{transactionsMost}
 use Rattle.charge.specs.Links.{Idle, NextOther}
-use Rattle.answers.specs.Work.{othersCell, tableAt, Lent, Weighs}
+use Rattle.answers.specs.Work.{othersCell, Lent, Weighs}
 use Rattle.answers.specs.Parts.{SameTo, OthersFrom}
 use Rattle.answers.proofs.Filling.{same-refl, same-set, same-trans, same-less}
 use Rattle.answers.proofs.Linking.{weighs-same, others-none, others-put}
@@ -21,7 +22,7 @@ abbrev Inv-loop : tie.InvT-loop
 Inv-loop row₀ s i₀ next₀ work i next =
     (i ≤ i₀)
     × (SameTo othersCell row₀ work
-    × (OthersFrom (tableAt row₀) (s .u) (s .a) i work × NextOther (tableAt row₀) (s .u) (s .a) i next))
+    × (OthersFrom (tableOf row₀) (s .u) (s .a) i work × NextOther (tableOf row₀) (s .u) (s .a) i next))
 
 abbrev μ-loop : tie.MeasureT-loop
 μ-loop row₀ s i₀ next₀ work i next = i
@@ -30,15 +31,15 @@ abbrev μ-loop : tie.MeasureT-loop
 leaves :
     (x : tie.Start Inv-loop μ-loop) (work : List ℕ)
     → SameTo othersCell (x .args .work .now) work
-    → Lent work × (Weighs work (x .args .s) × (tableAt work ≡ tableAt (x .args .work .now)))
+    → Lent work × (Weighs work (x .args .s) × (tableOf work ≡ tableOf (x .args .work .now)))
 leaves x work same = weighs-same (x .pre .0) (x .pre .1 .1) work (same-less (omega arith) same)
 
 transactions-requires : tie.Need-transactions-requires Inv-loop μ-loop
-transactions-requires c κs = c .before .pre .0 .holds
+transactions-requires c κs = tt
 
 -- at most 32 transactions
 few : (y : tie.After-transactions Inv-loop μ-loop) → y .transactions .result ≤ transactionsMost
-few y = omega (arith, y .transactions .ensures, y .before .before .pre .0 .holds .kept .fewTransactions)
+few y = omega (arith, y .transactions .ensures, y .before .before .pre .0 .table .kept .fewTransactions)
 
 cast-next : tie.Need-cast-next Inv-loop μ-loop
 cast-next c = omega (arith, few c)
@@ -62,7 +63,7 @@ ended-same y =
     same-set othersCell work work (othersCell + y .transactions .result) (y .transactions .result) (omega arith) (same-refl othersCell work)
 
 -- its table is that of the cells at entry
-ended-table : (y : tie.After-transactions Inv-loop μ-loop) → tableAt (ended y) ≡ tableAt (y .before .before .args .work .now)
+ended-table : (y : tie.After-transactions Inv-loop μ-loop) → tableOf (ended y) ≡ tableOf (y .before .before .args .work .now)
 ended-table y = leaves (y .before .before) (ended y) (ended-same y) .1 .1
 
 loop-holds : tie.Need-loop-holds Inv-loop μ-loop
@@ -70,7 +71,7 @@ loop-holds c =
     let x = c .before .before in
     let s = x .args .s in
     let work = x .args .work .now in
-    let tab = tableAt work in
+    let tab = tableOf work in
     let count = sym (c .transactions .ensures) in
     let next : NextOther tab (s .u) (s .a) (c .transactions .result) (c .transactions .result) =
     subst (λ (n : ℕ). NextOther tab (s .u) (s .a) n n) count (other-end (x .pre .1 .0 .isTask)) in
@@ -82,7 +83,7 @@ loop-holds c =
         same-refl othersCell (ended c),
         (
           subst (λ (t : Table). OthersFrom t (s .u) (s .a) (c .transactions .result) (ended c)) e
-              (others-put (omega (arith, few c, x .pre .0 .holds .size)) none next),
+              (others-put (omega (arith, few c, x .pre .0 .size)) none next),
           subst (λ (t : Table). NextOther t (s .u) (s .a) (c .transactions .result) (c .transactions .result)) e next,
         ),
       ),
@@ -94,7 +95,7 @@ sub-i c = omega arith
 -- the cells of a round
 present :
     (l : tie.At-loop Inv-loop μ-loop)
-    → Lent (l .loop .work) × (Weighs (l .loop .work) (l .before .before .before .args .s) × (tableAt (l .loop .work) ≡ tableAt (ended (l .before))))
+    → Lent (l .loop .work) × (Weighs (l .loop .work) (l .before .before .before .args .s) × (tableOf (l .loop .work) ≡ tableOf (ended (l .before))))
 present l =
     let x = l .before .before .before in
     let (lent, (weighs, e)) = leaves x (l .loop .work) (same-trans (ended-same (l .before)) (l .loop .inv .1 .0)) in
@@ -127,7 +128,7 @@ loop-again c =
     let y = l .before in
     let s = y .before .before .args .s in
     let i = l .loop .i - 1 in
-    let tab = tableAt (ended y) in
+    let tab = tableOf (ended y) in
     let (most, (same, (done, next))) = l .loop .inv in
     let (lent, (weighs, e)) = present l in
     let back : l .loop .i ≡ i + 1 = omega arith in
@@ -146,7 +147,7 @@ loop-again c =
       omega arith,
       (
         same-set othersCell (ended y) (l .loop .work) (othersCell + i) (c .if1 .next) (omega arith) same,
-        (others-put (omega (arith, few y, lent .holds .size)) before now, now),
+        (others-put (omega (arith, few y, lent .size)) before now, now),
       ),
     )
 
@@ -158,7 +159,7 @@ returns c =
     let e = ended-table (l .before) in
     let none : l .loop .i ≡ 0 = omega (arith, c .loop-test .left) in
     let all = subst (λ (t : Table). OthersFrom t (s .u) (s .a) (l .loop .i) (l .loop .work)) e (l .loop .inv .1 .1 .0) in (
-      subst (λ (i : ℕ). OthersFrom (tableAt (x .args .work .now)) (s .u) (s .a) i (l .loop .work)) none all,
+      subst (λ (i : ℕ). OthersFrom (tableOf (x .args .work .now)) (s .u) (s .a) i (l .loop .work)) none all,
       same-trans (ended-same (l .before)) (l .loop .inv .1 .0),
     )
 

@@ -5,12 +5,13 @@ use mathlib.Core.Logic.{⊎-elim}
 use Prim.Native.Nat.{ℕ, _+_, _-_, _*_, _≤_, _<_}
 use native.Mathlib.Omega.{arith}
 use lib.ListN.{set}
+use Rattle.row.specs.Row.{tableOf}
 use Rattle.table.specs.Table.{Table, IsTask, modes as modesIn}
 use Rattle.table.specs.Limits.{modesMost, tasksInAll}
 use Rattle.table.specs.Number.{number}
 use Rattle.charge.specs.Links.{Spare, NextSetting}
 use Rattle.charge.specs.Weight.{weight}
-use Rattle.answers.specs.Work.{settingsCell, tableAt, Lent, Weighs}
+use Rattle.answers.specs.Work.{settingsCell, Lent, Weighs}
 use Rattle.answers.specs.Parts.{SameTo}
 use Rattle.charge.proofs.Ranges.{modes-few}
 use Rattle.answers.proofs.Filling.{same-refl, same-set, same-trans}
@@ -21,16 +22,16 @@ use Rattle.answers.proofs.links.link_task.Tie as tie
 
 abbrev Inv-loop : tie.InvT-loop
 Inv-loop row₀ s k after i c m₀ next₀ work m next =
-    (m ≤ m₀) × (SameTo settingsCell row₀ work × LinksFrom (tableAt row₀) (s .u) (s .a) k i m next work)
+    (m ≤ m₀) × (SameTo settingsCell row₀ work × LinksFrom (tableOf row₀) (s .u) (s .a) k i m next work)
 
 abbrev μ-loop : tie.MeasureT-loop
 μ-loop row₀ s k after i c m₀ next₀ work m next = m
 
 owner-requires : tie.Need-owner-requires Inv-loop μ-loop
-owner-requires c κs = (c .before .pre .0 .holds, c .before .pre .1 .1 .0)
+owner-requires c κs = (c .before .pre .0 .table, c .before .pre .1 .1 .0)
 
 before-requires : tie.Need-before-requires Inv-loop μ-loop
-before-requires c κs = (c .before .before .before .pre .0 .holds, c .before .owner .ensures .isTask .owner)
+before-requires c κs = (c .before .before .before .pre .0 .table, c .before .owner .ensures .isTask .owner)
 
 sub-c : tie.Need-sub-c Inv-loop μ-loop
 sub-c c = omega (arith, c .before2 .ensures, c .before .before .owner .ensures .numbered)
@@ -38,7 +39,7 @@ sub-c c = omega (arith, c .before2 .ensures, c .before .before .owner .ensures .
 modes-requires : tie.Need-modes-requires Inv-loop μ-loop
 modes-requires c κs =
     let o = c .before .before .before in
-    (o .before .before .pre .0 .holds, o .owner .ensures .isTask .owner)
+    (o .before .before .pre .0 .table, o .owner .ensures .isTask .owner)
 
 -- the task, and what is known once its modes are read
 
@@ -67,17 +68,17 @@ module _ (y : tie.After-modes Inv-loop μ-loop) where
   abbrev c : ℕ
   c = k - y .before .before .before2 .result
 
-  place : IsTask (tableAt old) i c × (number (tableAt old) i c ≡ k)
+  place : IsTask (tableOf old) i c × (number (tableOf old) i c ≡ k)
   unfolding number
   place =
       let is = owned .owner .ensures in
       let first = y .before .before .before2 .ensures in
       let here : is .place ≡ c = omega (arith, first, is .numbered) in
-      (subst (IsTask (tableAt old) i) here (is .isTask), omega (arith, first, is .numbered))
+      (subst (IsTask (tableOf old) i) here (is .isTask), omega (arith, first, is .numbered))
 
   small : (k < tasksInAll) × (y .modes .result ≤ modesMost)
   small =
-      let kept = x .pre .0 .holds .kept in
+      let kept = x .pre .0 .table .kept in
       (omega (arith, x .pre .1 .1 .0, kept .fewTasks), omega (arith, y .modes .ensures, modes-few kept (owned .owner .ensures .isTask .owner)))
 
   -- the cells with the link behind its last mode
@@ -88,10 +89,10 @@ module _ (y : tie.After-modes Inv-loop μ-loop) where
   begun-same = same-set settingsCell old old (settingsCell + (modesMost * k + y .modes .result)) (x .args .after) (omega arith) (same-refl settingsCell old)
 
   -- rows are of the same table from there on
-  leaves : (work : List ℕ) → SameTo settingsCell begun work → Lent work × (Weighs work (x .args .s) × (tableAt work ≡ tableAt old))
+  leaves : (work : List ℕ) → SameTo settingsCell begun work → Lent work × (Weighs work (x .args .s) × (tableOf work ≡ tableOf old))
   leaves work same = weighs-same (x .pre .0) (x .pre .1 .0) work (same-trans begun-same same)
 
-  begun-table : tableAt begun ≡ tableAt old
+  begun-table : tableOf begun ≡ tableOf old
   begun-table = leaves begun (same-refl settingsCell begun) .1 .1
 
 mul-work : tie.Need-mul-work Inv-loop μ-loop
@@ -112,15 +113,15 @@ element-write-work c = omega (arith, small c)
 loop-holds : tie.Need-loop-holds Inv-loop μ-loop
 loop-holds y =
     let (lent, (weighs, (inside, (next, linked)))) = x y .pre in
-    let tab = tableAt (old y) in
+    let tab = tableOf (old y) in
     let after : NextSetting tab (u y) (a y) (modesMost * k y + y .modes .result) (x y .args .after) =
     subst (λ (m : ℕ). NextSetting tab (u y) (a y) (modesMost * k y + m) (x y .args .after)) (sym (y .modes .ensures))
-    (setting-behind (lent .holds .kept) (u y) (a y) (place y .0) (place y .1) next) in (
+    (setting-behind (lent .table .kept) (u y) (a y) (place y .0) (place y .1) next) in (
       omega arith,
       (
         same-refl settingsCell (begun y),
         subst (λ (t : Table). LinksFrom t (u y) (a y) (k y) (i y) (y .modes .result) (x y .args .after) (begun y)) (sym (begun-table y))
-            (links-put tab (u y) (a y) (small y .0) (small y .1) (lent .holds .size) linked (λ m from l. absurd (omega (arith, y .modes .ensures))) after),
+            (links-put tab (u y) (a y) (small y .0) (small y .1) (lent .size) linked (λ m from l. absurd (omega (arith, y .modes .ensures))) after),
       ),
     )
 
@@ -174,10 +175,10 @@ loop-again j =
     let l = j .before .before .before .before in
     let y = l .before in
     let n = l .loop .m - 1 in
-    let tab = tableAt (begun y) in
+    let tab = tableOf (begun y) in
     let (most, (same, links)) = l .loop .inv in
     let (lent, (weighs, e)) = leaves y (l .loop .work) same in
-    let kept = leaves y (begun y) (same-refl settingsCell (begun y)) .0 .holds .kept in
+    let kept = leaves y (begun y) (same-refl settingsCell (begun y)) .0 .table .kept in
     let here = e ∙ sym (begun-table y) in
     let is : IsTask tab (i y) (c y) = subst (λ (t : Table). IsTask t (i y) (c y)) (sym (begun-table y)) (place y .0) in
     let numbered : number tab (i y) (c y) ≡ k y = ap (λ (t : Table). number t (i y) (c y)) (begun-table y) ∙ place y .1 in
@@ -200,7 +201,7 @@ loop-again j =
       omega arith,
       (
         same-set settingsCell (begun y) (l .loop .work) (settingsCell + (modesMost * k y + n)) (j .if1 .next) (omega arith) same,
-        links-put tab (u y) (a y) (small y .0) (omega (arith, small y .1)) (lent .holds .size) (before .done) (before .settings) now,
+        links-put tab (u y) (a y) (small y .0) (omega (arith, small y .1)) (lent .size) (before .done) (before .settings) now,
       ),
     )
 
@@ -208,7 +209,7 @@ returns : tie.Need-returns Inv-loop μ-loop
 returns d =
     let l = d .before in
     let y = l .before in
-    let tab = tableAt (old y) in
+    let tab = tableOf (old y) in
     let none : l .loop .m ≡ 0 = omega (arith, d .loop-test .left) in
     let first : modesMost * k y + 0 ≡ modesMost * k y = omega arith in
     let (most, (same, links)) = l .loop .inv in

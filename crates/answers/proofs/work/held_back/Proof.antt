@@ -23,7 +23,7 @@ few :
     × ((d .before .before .args .first + d .before .before .args .c < tasksInAll) × (d .before .loop .j < tasksMost))
 few d =
     let (lent, (own, (mode, (loaded, here)))) = d .before .before .pre in
-    let kept = lent .holds .kept in
+    let kept = lent .table .kept in
     let inside = small kept own mode here in
     (small kept own mode (d .loop-test .taken), (inside .0, omega (arith, d .loop-test .taken, own .count, tasks-few kept (own .owner))))
 

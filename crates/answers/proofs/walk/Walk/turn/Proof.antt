@@ -6,13 +6,13 @@ use denote.Ref.{now}
 use Prim.Native.Nat.{ℕ, _-_, _≤_}
 use native.Mathlib.Nat.{le-of-eq}
 use native.Mathlib.Omega.{arith}
+use Rattle.row.specs.Row.{tableOf}
 use Rattle.table.specs.Limits.{horizon}
 use Rattle.table.specs.Table.{Table}
 use Rattle.periods.specs.Charge.{imposed}
 use Rattle.analysis.specs.Bound.{lastJob, jobsTo, busy}
 use Rattle.analysis.specs.Walk.{walkJobs, walkTurn}
 use Rattle.answers.specs.Turn.{IsInstant, walked}
-use Rattle.answers.specs.Work.{tableAt}
 use Rattle.answers.proofs.Chain.{Comes}
 use Rattle.answers.proofs.Instants.{instant-own, instant-first, instant-period, instant-phase, instant-last, instant-jobs, last-near, busy-comes}
 use Rattle.answers.proofs.Walks.{afterStop, turn-walked}
@@ -23,13 +23,13 @@ instant-of-requires : tie.Need-instant-of-requires
 instant-of-requires c κs = search needs
 
 abbrev tab : tie.Start → Table
-tab c = tableAt (now (c .args .work))
+tab c = tableOf (now (c .args .work))
 
 -- the turn, by the mode and the candidate that it holds
 own : (c : tie.After-instant-of) → let a = c .before .args in let x = c .instant-of .result in IsInstant (tab (c .before)) (a .s .u) (a .s .a) (x .mode) (x .candidate) x
 own c =
     let (lent, (subject, (setting, within))) = c .before .pre in
-    instant-own (lent .holds .kept) (subject .chosen .isTask) (c .instant-of .ensures)
+    instant-own (lent .table .kept) (subject .chosen .isTask) (c .instant-of .ensures)
 
 busy-chain-requires : tie.Need-busy-chain-requires
 busy-chain-requires c κs =
@@ -56,7 +56,7 @@ comes c =
     let (lent, (subject, (setting, within))) = d .before .pre in
     let a = d .before .args in
     subst (Comes (a .budget) (Back d)) (sym (c .before .before .busy-chain .ensures) ∙ c .length .given .1)
-    (busy-comes (lent .holds .kept) (subject .chosen .isTask) (own d .setting) (a .budget) (a .budget - a .self .used))
+    (busy-comes (lent .table .kept) (subject .chosen .isTask) (own d .setting) (a .budget) (a .budget - a .self .used))
 
 enum-known-length : tie.Need-enum-known-length
 enum-known-length c = search needs
@@ -65,26 +65,26 @@ last-job-requires : tie.Need-last-job-requires
 last-job-requires c κs =
     let d = c .before .before .before .before .before .before .before in
     let (lent, (subject, (setting, within))) = d .before .pre in
-    (instant-phase (lent .holds .kept) (subject .chosen .isTask) (own d), (instant-period (lent .holds .kept) (subject .chosen .isTask) (own d), comes (c .before .before .before .before) .0 .0))
+    (instant-phase (lent .table .kept) (subject .chosen .isTask) (own d), (instant-period (lent .table .kept) (subject .chosen .isTask) (own d), comes (c .before .before .before .before) .0 .0))
 
 last : (c : tie.After-last-job) → let d = c .before .before .before .before .before .before .before .before in let a = d .before .args in c .last-job .result .0 ≡ lastJob (tab (d .before)) (a .s .u) (a .s .a) (d .instant-of .result .candidate) (c .before .before .before .before .before .length .given .0 .0 .0)
 last c =
     let d = c .before .before .before .before .before .before .before .before in
     let (lent, (subject, (setting, within))) = d .before .pre in
-    c .last-job .ensures ∙ instant-last (lent .holds .kept) (subject .chosen .isTask) (own d) (c .before .before .before .before .before .length .given .0 .0 .0)
+    c .last-job .ensures ∙ instant-last (lent .table .kept) (subject .chosen .isTask) (own d) (c .before .before .before .before .before .length .given .0 .0 .0)
 
 jobs-to-requires : tie.Need-jobs-to-requires
 jobs-to-requires c κs =
     let d = c .before .before .before .before .before .before .before .before in
     let (lent, (subject, (setting, within))) = d .before .pre in
     let k = comes (c .before .before .before .before .before) in
-    (instant-first (lent .holds .kept) (subject .chosen .isTask) (own d), rw (last c) (last-near (lent .holds .kept) (subject .chosen .isTask) (d .instant-of .result .candidate) (k .0 .0 .1)))
+    (instant-first (lent .table .kept) (subject .chosen .isTask) (own d), rw (last c) (last-near (lent .table .kept) (subject .chosen .isTask) (d .instant-of .result .candidate) (k .0 .0 .1)))
 
 jobs : (c : tie.After-jobs-to) → let d = c .before .before .before .before .before .before .before .before .before in let a = d .before .args in c .jobs-to .result ≡ jobsTo (tab (d .before)) (a .s .u) (a .s .a) (d .instant-of .result .candidate) (lastJob (tab (d .before)) (a .s .u) (a .s .a) (d .instant-of .result .candidate) (c .before .before .before .before .before .before .length .given .0 .0 .0))
 jobs c =
     let d = c .before .before .before .before .before .before .before .before .before in
     let (lent, (subject, (setting, within))) = d .before .pre in
-    rw (← (last (c .before))) (c .jobs-to .ensures ∙ instant-jobs (lent .holds .kept) (subject .chosen .isTask) (own d) (c .before .last-job .result .0))
+    rw (← (last (c .before))) (c .jobs-to .ensures ∙ instant-jobs (lent .table .kept) (subject .chosen .isTask) (own d) (c .before .last-job .result .0))
 
 jobs-requires : tie.Need-jobs-requires
 jobs-requires c κs =
