@@ -13,8 +13,8 @@ held-back-requires c κs = search needs
 
 add-result : tie.Need-add-result
 add-result c =
-    let (lent, (subject, (isTask, (mode, split)))) = c .before .before .pre in
-    omega (arith, periods-lt (lent .table .kept) split)
+    let setting = c .before .before .pre in
+    omega (arith, periods-lt (setting .lent .table .kept) (setting .split))
 
 mode-weight-requires : tie.Need-mode-weight-requires
 mode-weight-requires c κs = search needs
@@ -22,17 +22,17 @@ mode-weight-requires c κs = search needs
 mul-result : tie.Need-mul-result
 mul-result c =
     let s = c .before .before .before in
-    let (lent, (subject, (isTask, (mode, split)))) = s .pre in
-    let most = passed-le (lent .table .kept) split mode (s .args .s .u) (s .args .s .a) in
+    let setting = s .pre in
+    let most = passed-le (setting .lent .table .kept) (setting .split) (setting .mode) (s .args .s .u) (s .args .s .a) in
     rw (c .mode-weight .ensures) (omega (arith, most))
 
 add-result-2 : tie.Need-add-result-2
 add-result-2 c =
     let s = c .before .before .before in
-    let (lent, (subject, (isTask, (mode, split)))) = s .pre in
-    let most = passed-le (lent .table .kept) split mode (s .args .s .u) (s .args .s .a) in
+    let setting = s .pre in
+    let most = passed-le (setting .lent .table .kept) (setting .split) (setting .mode) (s .args .s .u) (s .args .s .a) in
     rw (c .before .before .held-back .ensures, c .mode-weight .ensures)
-    (omega (arith, most, held-back-le (lent .table .kept) (s .args .s .u) (s .args .s .a) (isTask .owner) mode (s .args .c)))
+    (omega (arith, most, held-back-le (setting .lent .table .kept) (s .args .s .u) (s .args .s .a) (setting .isTask .owner) (setting .mode) (s .args .c)))
 
 returns : tie.Need-returns
 unfolding chargeCap

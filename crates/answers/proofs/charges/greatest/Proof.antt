@@ -77,7 +77,13 @@ setting-charge-requires : tie.Need-setting-charge-requires Inv-loop μ-loop
 setting-charge-requires c κs =
     let d = c .before .before .before .before .before .before .before in
     let pre = d .before .pre in
-    (pre .0, (pre .1 .0, (at c .isTask, (c .before .before .loop .inv .charged _ _ (at c) .mode, d .split-of .ensures .isSplit))))
+    record {
+      lent = pre .0;
+      subject = pre .1 .0;
+      isTask = at c .isTask;
+      mode = c .before .before .loop .inv .charged _ _ (at c) .mode;
+      split = d .split-of .ensures .isSplit;
+    }
 
 add-index-2 : tie.Need-add-index-2 Inv-loop μ-loop
 add-index-2 c = omega (arith, few (c .before .before .before .before .before .before .before .before))
