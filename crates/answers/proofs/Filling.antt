@@ -1,26 +1,24 @@
--- Filling a working row: one store, a task by its number, and the part that is filled once for a table.
+-- Filling the work cells: one store, a task by its number, and the part that is filled once for a table.
 use mathlib.Core.Path.{_≡_, refl, sym, ap, ap₂, _∙_, subst}
 use mathlib.Core.List.{List}
 use Prim.Native.Nat.{ℕ, _+_, _-_, _*_, _≤_, _<_}
-use native.Mathlib.Nat.{le-of-eq}
-use native.Mathlib.Decide.{ℕ-discrete}
+use native.Mathlib.Decide.{ℕ-discrete, decLe}
 use native.Mathlib.Omega.{arith}
 use lib.ListN.{length, getD, take, set, length-set}
 use lib.Seq.{getD-set-same, getD-set-other, getD-take, take-take, take-set-le, take-all}
-use Rattle.table.specs.Table.{Table, IsTask, transactions, tasks}
+use Rattle.table.specs.Table.{Table, IsTask, tasks}
 use Rattle.table.specs.Limits.{tasksMost, tasksInAll}
 use Rattle.table.specs.Number.{before, inAll, number}
 use Rattle.table.specs.Kept.{Kept}
 use Rattle.table.proofs.Number.{place, number-lt, number-unique}
-use Rattle.row.specs.Row.{inAllCell, firstCell, taskCell, ownerCell, rowCells, rowOf, tableOf, headCell}
-use Rattle.image.specs.Read.{Decoded}
-use Rattle.row.proofs.Held.{head-there}
+use Rattle.row.specs.Row.{firstCell, ownerCell, rowCells, tableOf, headCell, bodyCell, RowOfTable}
+use Rattle.row.proofs.Fields.{read-first, read-owner}
 use Rattle.row.proofs.Rows.{row-size}
-use Rattle.image.proofs.Decoded.{row-decoded}
+use Rattle.row.proofs.Longer.{same-held, longer}
 use Rattle.analysis.specs.Charge.{phaseOf, heldOf}
-use Rattle.answers.specs.Work.{phasesCell, heldCell, weightsCell, workCells, tableAt, Lent}
-use Rattle.answers.specs.Parts.{RowOfTable, SameTo, Phased}
-use Rattle.answers.proofs.Ranges.{tasks-few}
+use Rattle.answers.specs.Work.{phasesCell, heldCell, weightsCell, workCells, Lent}
+use Rattle.answers.specs.Parts.{SameTo, Phased}
+use Rattle.charge.proofs.Ranges.{tasks-few}
 
 -- ---- one store, and what lies below it
 
@@ -59,36 +57,33 @@ same-cell {n} {old} {row} same p h e =
 
 -- ---- a table's row
 
-module _ {row : List ℕ} (x : RowOfTable row) where
-  decoded : Decoded row
-  decoded = rw (x .isRow) at (row-decoded _ (x .kept))
+-- all its cells are there
+pub row-long : {row : List ℕ} → RowOfTable row → rowCells ≤ length row
+row-long {row} x =
+    elim (decLe rowCells (length row)) [
+      | yes l ↦ l
+      | no l ↦
+          absurd (omega (arith, row-size (tableOf row) (x .kept), ap length (x .isRow), ap length (take-all rowCells row (omega arith))))
+    ]
 
-  pub table-size : length row ≡ rowCells
-  table-size = ap length (sym (x .isRow)) ∙ row-size (tableOf row) (x .kept)
-
-  pub count-is : getD row inAllCell 0 ≡ inAll (tableOf row)
-  count-is = decoded .inAll
-
-  first-is : {u : ℕ} → u < transactions (tableOf row) → headCell row u firstCell ≡ before (tableOf row) u
-  first-is {u} h = head-there row u firstCell h ∙ decoded .first u h
-
-  -- the transaction of task number k, and its place there
-  pub found :
-      {k u f : ℕ}
-      → k < inAll (tableOf row)
-      → u ≡ getD row (taskCell k + ownerCell) 0
-      → f ≡ headCell row u firstCell
-      → (f ≤ k) × (IsTask (tableOf row) u (k - f) × (number (tableOf row) u (k - f) ≡ k))
-  unfolding number
-  found {k} {u} {f} h e g =
-      let p = place (tableOf row) k h in
-      let numbered : before (tableOf row) (p .u) + p .j ≡ k = p .numbered in
-      let same : p .u ≡ u =
-      sym (e ∙ ap (λ (n : ℕ). getD row (taskCell n + ownerCell) 0) (sym numbered) ∙ decoded .owner (p .u) (p .j) (p .isTask)) in
-      let isTask : IsTask (tableOf row) u (p .j) = subst (λ (v : ℕ). IsTask (tableOf row) v (p .j)) same (p .isTask) in
-      let first : f ≡ before (tableOf row) (p .u) = g ∙ first-is (isTask .owner) ∙ ap (before (tableOf row)) (sym same) in
-      let j : p .j ≡ k - f = omega arith in
-      (omega arith, (subst (IsTask (tableOf row) u) j isTask, omega (arith, ap (before (tableOf row)) same)))
+-- the transaction of task number k, and its place there
+pub found :
+    {row : List ℕ} {k u f : ℕ}
+    → RowOfTable row
+    → k < inAll (tableOf row)
+    → u ≡ bodyCell row k ownerCell
+    → f ≡ headCell row u firstCell
+    → (f ≤ k) × (IsTask (tableOf row) u (k - f) × (number (tableOf row) u (k - f) ≡ k))
+unfolding number
+found {row} {k} {u} {f} x h e g =
+    let p = place (tableOf row) k h in
+    let numbered : before (tableOf row) (p .u) + p .j ≡ k = p .numbered in
+    let same : p .u ≡ u =
+    sym (e ∙ ap (λ (n : ℕ). bodyCell row n ownerCell) (sym numbered) ∙ read-owner x (p .isTask)) in
+    let isTask : IsTask (tableOf row) u (p .j) = subst (λ (v : ℕ). IsTask (tableOf row) v (p .j)) same (p .isTask) in
+    let first : f ≡ before (tableOf row) (p .u) = g ∙ read-first x (isTask .owner) ∙ ap (before (tableOf row)) (sym same) in
+    let j : p .j ≡ k - f = omega arith in
+    (omega arith, (subst (IsTask (tableOf row) u) j isTask, omega (arith, ap (before (tableOf row)) same)))
 
 -- ---- phases and held-back jobs
 
@@ -207,60 +202,47 @@ phased-same {tab} kept same x =
           (x .held i c j is are l);
     }
 
--- ---- a working row of a table
+-- ---- the work cells of a table
 
-module _ {table : List ℕ} (x : RowOfTable table) (row : List ℕ) where
-  pub same-table : take rowCells row ≡ take rowCells table → tableAt row ≡ tableOf table
-  unfolding tableAt
-  same-table e = ap tableOf (e ∙ take-all rowCells table (le-of-eq (table-size x)))
-
-  pub prepared :
-      length row ≡ workCells
-      → take rowCells row ≡ take rowCells table
-      → Phased (tableOf table) (inAll (tableOf table)) row
-      → Lent row
-  prepared long e phased =
-      let same = same-table e in
-      let all = subst (λ (tab : Table). Phased tab (inAll tab) row) (sym same) phased in
+pub prepared :
+    {table : List ℕ}
+    → RowOfTable table
+    → (row : List ℕ)
+    → length row ≡ workCells
+    → take rowCells row ≡ take rowCells table
+    → Phased (tableOf table) (inAll (tableOf table)) row
+    → Lent row × (tableOf row ≡ tableOf table)
+prepared {table} x row long e phased =
+    let same = same-held table row (x .kept) e in
+    let all = subst (λ (tab : Table). Phased tab (inAll tab) row) (sym same) phased in (
       record {
-        holds =
-            record {
-              size = long;
-              kept = subst Kept (sym same) (x .kept);
-              isRow =
-                  ap rowOf same
-                  ∙ x .isRow
-                  ∙ sym (e ∙ take-all rowCells table (le-of-eq (table-size x)));
-            };
-        phases = λ i c j is are. all .phases i c j is are (number-lt (tableAt row) is);
-        held = λ i c j is are. all .held i c j is are (number-lt (tableAt row) is);
-      }
+        size = long;
+        table = longer x e;
+        phases = λ i c j is are. all .phases i c j is are (number-lt (tableOf row) is);
+        held = λ i c j is are. all .held i c j is are (number-lt (tableOf row) is);
+      },
+      same,
+    )
 
 -- and back
-lent-phased : {row : List ℕ} → Lent row → (tab : Table) → tableAt row ≡ tab → Phased tab (inAll tab) row
+lent-phased : {row : List ℕ} → Lent row → (tab : Table) → tableOf row ≡ tab → Phased tab (inAll tab) row
 lent-phased {row} lent tab e =
     subst (λ (t : Table). Phased t (inAll t) row) e
     (record { phases = λ i c j is are l. lent .phases i c j is are; held = λ i c j is are l. lent .held i c j is are })
 
--- stores from the weights on leave a working row of its table
-pub lent-same : {old : List ℕ} → Lent old → (row : List ℕ) → SameTo weightsCell old row → Lent row × (tableAt row ≡ tableAt old)
-unfolding tableAt
+-- stores from the weights on leave the work cells of its table
+pub lent-same : {old : List ℕ} → Lent old → (row : List ℕ) → SameTo weightsCell old row → Lent row × (tableOf row ≡ tableOf old)
 lent-same {old} lent row same =
     let front : take rowCells row ≡ take rowCells old = same-less {m = rowCells} (omega arith) same .front in
-    let table : tableAt row ≡ tableAt old = ap tableOf front in
-    let kept = lent .holds .kept in
+    let table = same-held old row (lent .table .kept) front in
     let phased =
     subst (λ (tab : Table). Phased tab (inAll tab) row) (sym table)
-    (phased-same kept same (lent-phased lent (tableAt old) refl)) in (
+    (phased-same (lent .table .kept) same (lent-phased lent (tableOf old) refl)) in (
       record {
-        holds =
-            record {
-              size = same .size ∙ lent .holds .size;
-              kept = subst Kept (sym table) kept;
-              isRow = ap rowOf table ∙ lent .holds .isRow ∙ sym front;
-            };
-        phases = λ i c j is are. phased .phases i c j is are (number-lt (tableAt row) is);
-        held = λ i c j is are. phased .held i c j is are (number-lt (tableAt row) is);
+        size = same .size ∙ lent .size;
+        table = longer (lent .table) front;
+        phases = λ i c j is are. phased .phases i c j is are (number-lt (tableOf row) is);
+        held = λ i c j is are. phased .held i c j is are (number-lt (tableOf row) is);
       },
       table,
     )

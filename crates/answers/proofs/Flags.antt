@@ -5,7 +5,7 @@ use Prim.Native.Nat.{ℕ, _<_}
 use native.Mathlib.Omega.{arith}
 use lib.Dec.{ltb}
 use borrow.Author.Tests.{lt-ltb, le-ltb}
-use Rattle.analysis.specs.Choice.{when, unless}
+use Rattle.analysis.specs.Choice.{when}
 use Rattle.answers.specs.Lent.{tested}
 
 pub tested-yes : {A : Type 0} (d : Dec A) → A → tested d ≡ true
@@ -22,11 +22,6 @@ tested-no (no f) h = refl
 pub never : false ≡ true → ⊥
 never e = let z : _≡_ {A = ℕ} 0 1 = cc in omega arith
 
-pub when-false : {A : Type 0} (d : Dec A) (x : ℕ) → tested d ≡ false → when d x ≡ 0
-unfolding tested when
-when-false (yes a) x e = absurd (never (sym e))
-when-false (no f) x e = refl
-
 -- what is chosen or not tells the flag
 
 pub chosen-flag : {A : Type 0} (d : Dec A) → when d 1 ≡ 1 → tested d ≡ true
@@ -38,11 +33,6 @@ pub spared-flag : {A : Type 0} (d : Dec A) → when d 1 ≡ 0 → tested d ≡ f
 unfolding tested when
 spared-flag (yes a) e = absurd (omega arith)
 spared-flag (no f) e = refl
-
-pub unless-yes : {A : Type 0} (d : Dec A) (x : ℕ) → A → unless d x ≡ 0
-unfolding unless
-unless-yes (yes a) x h = refl
-unless-yes (no f) x h = absurd (f h)
 
 -- a comparison is the flag of its decision
 pub tested-lt : (x y : ℕ) (d : Dec (x < y)) → ltb x y ≡ tested d

@@ -17,7 +17,8 @@ use Rattle.refusals.specs.declared.Answer.the-variants.{Refused}
 use Rattle.refusals.specs.Answer.{answerPlace}
 use Rattle.format.specs.Fault.{imageFault}
 use Rattle.format.specs.Said.{tableIn}
-use Rattle.row.specs.Row.{rowOf, tableOf}
+use Rattle.row.proofs.Fields.{row-of-table}
+use Rattle.row.specs.Row.{rowOf, tableOf, RowOfTable}
 use Rattle.format.specs.Fault.{IsAccepted}
 use Rattle.image.specs.Read.{rowFor}
 use Rattle.format.proofs.Kept.{kept}
@@ -33,7 +34,6 @@ use Rattle.analysis.proofs.Answer.{answers, answers-unique}
 use Rattle.analysis.proofs.Budget.{greater-budget}
 use Rattle.runs.proofs.Demand.{answer-safe}
 use Rattle.answers.specs.declared.answers.TaskCells.{TaskCells}
-use Rattle.answers.specs.Parts.{RowOfTable}
 use Rattle.answers.specs.Answered.{CellsAt, stored}
 use Rattle.answers.specs.Told.{cellsOfTask, cellsIn, Owed, Written, paired, RespondsFrom}
 
@@ -49,7 +49,7 @@ module _ (image cells : List ℕ) (ok : IsAccepted image) (read : cells ≡ rowF
 
   -- and nothing else
   pub read-lent : RowOfTable cells
-  read-lent = record { kept = rw read-table (kept image ok); isRow = ap rowOf read-table ∙ sym is-row }
+  read-lent = rw is-row (row-of-table (kept image ok))
 
 -- the place of a refusal fits 32 bits
 pub place-small : (image : List ℕ) {refusal : Refusal} {at : ℕ} → imageFault image ≡ Refused refusal at → at < 2 ^ 32

@@ -56,7 +56,7 @@ pub record Going (budget : ℕ) (whole : walk.Walked) (rest : ℕ → ℕ → wa
   pub same : rest (budget - x .used) (x .best) ≡ whole
 
 -- rest is that first step and then the others
-pub record Split (rest first others : ℕ → ℕ → walk.Walked) : Type 0 where
+pub record Steps (rest first others : ℕ → ℕ → walk.Walked) : Type 0 where
   pub is : (left best : ℕ) → rest left best ≡ onward (first left best) others
   pub keeps : (most left best : ℕ) → left ≤ most → Keeps most (first left best)
 
@@ -72,7 +72,7 @@ stays (Through x) k = ⊎-elim (λ e. omega arith) (λ e. omega arith) k
 stays (Past used) k = tt
 stays Broke k = tt
 
-module _ {budget : ℕ} {whole : walk.Walked} {rest first others : ℕ → ℕ → walk.Walked} {x : Walk} (going : Going budget whole rest x) (split : Split rest first others) {step : Walked} (is : step ≡ walked budget (first (budget - x .used) (x .best))) where
+module _ {budget : ℕ} {whole : walk.Walked} {rest first others : ℕ → ℕ → walk.Walked} {x : Walk} (going : Going budget whole rest x) (split : Steps rest first others) {step : Walked} (is : step ≡ walked budget (first (budget - x .used) (x .best))) where
   pub going-on : {next : Walk} → step ≡ Through next → Going budget whole others next
   unfolding walked
   going-on {next} e =
@@ -105,11 +105,11 @@ going-ends {budget} {whole} {rest} {x} going none =
     rw e (ap (λ (n : ℕ). Through (record { used = n; best = x .best })) back)
 
 -- a loop that counts to n: at i there are n − i steps to do
-counted : (rest : (todo i : ℕ) → ℕ → ℕ → walk.Walked) (first : ℕ → ℕ → ℕ → walk.Walked) → ((todo i : ℕ) → Split (rest (suc todo) i) (first i) (rest todo (suc i))) → (n i : ℕ) → i < n → Split (rest (n - i) i) (first i) (rest (n - (i + 1)) (i + 1))
+counted : (rest : (todo i : ℕ) → ℕ → ℕ → walk.Walked) (first : ℕ → ℕ → ℕ → walk.Walked) → ((todo i : ℕ) → Steps (rest (suc todo) i) (first i) (rest todo (suc i))) → (n i : ℕ) → i < n → Steps (rest (n - i) i) (first i) (rest (n - (i + 1)) (i + 1))
 counted rest first split n i l =
     let more : suc (n - (i + 1)) ≡ n - i = omega arith in
     let next : suc i ≡ i + 1 = omega arith in
-    subst₂ (λ (k j : ℕ). Split (rest k i) (first i) (rest (n - (i + 1)) j)) more next (split (n - (i + 1)) i)
+    subst₂ (λ (k j : ℕ). Steps (rest k i) (first i) (rest (n - (i + 1)) j)) more next (split (n - (i + 1)) i)
 
 -- ---- what follows a chain
 
@@ -177,7 +177,7 @@ module _ (later : Later) (tab : Table) (u a m c : ℕ) where
       rw (jobs-after todo N left best)
       (after-keeps most (λ w l. walkJobs later tab u a m c todo (suc N) l (max best (count (response tab u a c (job tab u a c N) w)))) (chain f never? left x) (chain-keeps f never? most left x h) (λ w l k. jobs-keeps most todo (suc N) l (max best (count (response tab u a c (job tab u a c N) w))) k))
 
-  jobs-split : (todo N : ℕ) → Split (walkJobs later tab u a m c (suc todo) N) (walkJobs later tab u a m c 1 N) (walkJobs later tab u a m c todo (suc N))
+  jobs-split : (todo N : ℕ) → Steps (walkJobs later tab u a m c (suc todo) N) (walkJobs later tab u a m c 1 N) (walkJobs later tab u a m c todo (suc N))
   unfolding walkJobs
   jobs-split todo N =
       record {
@@ -185,7 +185,7 @@ module _ (later : Later) (tab : Table) (u a m c : ℕ) where
         keeps = λ most left best h. jobs-keeps most 1 N left best h;
       }
 
-  pub jobs-next : (n N : ℕ) → N < n → Split (walkJobs later tab u a m c (n - N) N) (walkJobs later tab u a m c 1 N) (walkJobs later tab u a m c (n - (N + 1)) (N + 1))
+  pub jobs-next : (n N : ℕ) → N < n → Steps (walkJobs later tab u a m c (n - N) N) (walkJobs later tab u a m c 1 N) (walkJobs later tab u a m c (n - (N + 1)) (N + 1))
   jobs-next n N l = counted (walkJobs later tab u a m c) (walkJobs later tab u a m c 1) jobs-split n N l
 
   pub jobs-none : (n N : ℕ) → n ≤ N → (left best : ℕ) → walkJobs later tab u a m c (n - N) N left best ≡ through left best
@@ -257,7 +257,7 @@ module _ (later : Later) (tab : Table) (u a : ℕ) where
       go (past l) more = refl
       go walk.Walked.short more = refl
 
-  append-split : {all : List order.Turn} (xs ys : List order.Turn) → all ≡ xs ++ ys → Split (walkTurns later tab u a all) (walkTurns later tab u a xs) (walkTurns later tab u a ys)
+  append-split : {all : List order.Turn} (xs ys : List order.Turn) → all ≡ xs ++ ys → Steps (walkTurns later tab u a all) (walkTurns later tab u a xs) (walkTurns later tab u a ys)
   append-split {all} xs ys e =
       record {
         is = λ left best. rw e (turns-append xs ys left best);
@@ -265,7 +265,7 @@ module _ (later : Later) (tab : Table) (u a : ℕ) where
       }
 
   -- the candidates of a mode, one by one
-  candidates-split : (m todo c : ℕ) → Split (walkTurns later tab u a (turnsFrom tab u a m c (suc todo))) (walkTurns later tab u a (turnsFrom tab u a m c 1)) (walkTurns later tab u a (turnsFrom tab u a m (suc c) todo))
+  candidates-split : (m todo c : ℕ) → Steps (walkTurns later tab u a (turnsFrom tab u a m c (suc todo))) (walkTurns later tab u a (turnsFrom tab u a m c 1)) (walkTurns later tab u a (turnsFrom tab u a m (suc c) todo))
   unfolding turnsFrom from
   candidates-split m todo c = append-split _ _ (go (candidate? tab u a m c) (filter (candidate? tab u a m) (from (suc c) todo)))
     where
@@ -276,7 +276,7 @@ module _ (later : Later) (tab : Table) (u a : ℕ) where
       go (yes h) l = refl
       go (no h) l = refl
 
-  pub candidates-next : (m n c : ℕ) → c < n → Split (walkTurns later tab u a (turnsFrom tab u a m c (n - c))) (walkTurns later tab u a (turnsFrom tab u a m c 1)) (walkTurns later tab u a (turnsFrom tab u a m (c + 1) (n - (c + 1))))
+  pub candidates-next : (m n c : ℕ) → c < n → Steps (walkTurns later tab u a (turnsFrom tab u a m c (n - c))) (walkTurns later tab u a (turnsFrom tab u a m c 1)) (walkTurns later tab u a (turnsFrom tab u a m (c + 1) (n - (c + 1))))
   candidates-next m n c l =
       counted (λ todo k. walkTurns later tab u a (turnsFrom tab u a m k todo)) (λ k. walkTurns later tab u a (turnsFrom tab u a m k 1)) (candidates-split m) n c l
 
@@ -286,7 +286,7 @@ module _ (later : Later) (tab : Table) (u a : ℕ) where
       let none : n - c ≡ 0 = omega arith in
       ap (λ (k : ℕ). walkTurns later tab u a (turnsFrom tab u a m c k) left best) none
 
-  modes-split : (todo m : ℕ) → Split (walkTurns later tab u a (modesFrom tab u a m (suc todo))) (walkTurns later tab u a (modeTurns tab u a m)) (walkTurns later tab u a (modesFrom tab u a (suc m) todo))
+  modes-split : (todo m : ℕ) → Steps (walkTurns later tab u a (modesFrom tab u a m (suc todo))) (walkTurns later tab u a (modeTurns tab u a m)) (walkTurns later tab u a (modesFrom tab u a (suc m) todo))
   unfolding modeTurns turnsBy turnsFrom turns candidates from
   modes-split todo m = append-split _ _ (go (runs? tab u m a) (filter (λ x. runs? tab u x a) (from (suc m) todo)))
     where
@@ -294,7 +294,7 @@ module _ (later : Later) (tab : Table) (u a : ℕ) where
       go (yes h) l = refl
       go (no h) l = refl
 
-  pub modes-next : (n m : ℕ) → m < n → Split (walkTurns later tab u a (modesFrom tab u a m (n - m))) (walkTurns later tab u a (modeTurns tab u a m)) (walkTurns later tab u a (modesFrom tab u a (m + 1) (n - (m + 1))))
+  pub modes-next : (n m : ℕ) → m < n → Steps (walkTurns later tab u a (modesFrom tab u a m (n - m))) (walkTurns later tab u a (modeTurns tab u a m)) (walkTurns later tab u a (modesFrom tab u a (m + 1) (n - (m + 1))))
   modes-next n m l =
       counted (λ todo k. walkTurns later tab u a (modesFrom tab u a k todo)) (λ k. walkTurns later tab u a (modeTurns tab u a k)) modes-split n m l
 

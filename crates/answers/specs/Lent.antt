@@ -1,9 +1,8 @@
--- A task by its number, a decision as a flag, and how far charges are asked for.
+-- A task by its number, and a decision as a flag.
 use mathlib.Core.Path.{_≡_}
 use mathlib.Core.Bool.{Bool, true, false}
 use Prim.Native.Nat.{ℕ, _+_}
 use Rattle.table.specs.Table.{Table, IsTask}
-use Rattle.table.specs.Limits.{horizon}
 use Rattle.table.specs.Number.{before}
 
 -- u is the transaction of task number k
@@ -16,7 +15,3 @@ pub record Owner (tab : Table) (k u : ℕ) : Type 0 where
 unfoldable pub tested : {A : Type 0} → Dec A → Bool
 tested (yes h) = true
 tested (no h) = false
-
--- the greatest t at which charges are asked for: no chain passes the horizon
-abbrev pub longest : ℕ
-longest = horizon

@@ -1,10 +1,7 @@
 pub mod Lent
-pub mod Quantity
 pub mod Turn
 pub mod Told
 pub mod Answered
-pub mod Weight
-pub mod Links
 pub mod Work
 pub mod Parts
 pub mod Split

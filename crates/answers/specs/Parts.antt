@@ -1,4 +1,4 @@
--- A table's row, and the parts of a working row as they are filled: task by task or mode by mode, in the order of their
+-- The parts of the work cells as they are filled: task by task or mode by mode, in the order of their
 -- numbers.
 use mathlib.Core.Path.{_≡_}
 use mathlib.Core.List.{List}
@@ -7,23 +7,16 @@ use lib.ListN.{length, getD, take}
 use Rattle.table.specs.Table.{Table, IsTask, transactions, tasks, modes}
 use Rattle.table.specs.Limits.{modesMost, tasksMost, tasksInAll}
 use Rattle.table.specs.Number.{before, number}
-use Rattle.table.specs.Kept.{Kept}
-use Rattle.row.specs.Row.{rowOf, tableOf}
 use Rattle.analysis.specs.Charge.{phaseOf, heldOf}
 use Rattle.answers.specs.declared.charges.Subject.{Subject}
-use Rattle.answers.specs.Work.{phasesCell, heldCell, weightsCell, loadsCell, sumsCell, rowsCell, othersCell, Chosen}
-use Rattle.answers.specs.Links.{rowNumber, NextRow, NextOther}
-use Rattle.answers.specs.Weight.{weight, weights, heldBack}
+use Rattle.answers.specs.Work.{phasesCell, heldCell, weightsCell, modeWeightsCell, sumsCell, settingsCell, othersCell, Chosen}
+use Rattle.charge.specs.Links.{settingNumber, NextSetting, NextOther}
+use Rattle.charge.specs.Weight.{weight, modeWeight, heldBack}
 
--- the row of a table that keeps the bounds on a table
-pub record RowOfTable (row : List ℕ) : Type 0 where
-  pub kept : Kept (tableOf row)
-  pub isRow : rowOf (tableOf row) ≡ row
-
--- the row is as long as the old one, and has its first n cells
-pub record SameTo (n : ℕ) (old row : List ℕ) : Type 0 where
-  pub size : length row ≡ length old
-  pub front : take n row ≡ take n old
+-- the cells are as many as the old ones, and the first n are the same
+pub record SameTo (n : ℕ) (old work : List ℕ) : Type 0 where
+  pub size : length work ≡ length old
+  pub front : take n work ≡ take n old
 
 -- s is the task with number k
 pub record IsSubjectAt (tab : Table) (k : ℕ) (s : Subject) : Type 0 where
@@ -31,19 +24,19 @@ pub record IsSubjectAt (tab : Table) (k : ℕ) (s : Subject) : Type 0 where
   pub numbered : number tab (s .u) (s .a) ≡ k
 
 -- the phases, and the jobs held back, of the candidates with numbers below k
-pub record Phased (tab : Table) (k : ℕ) (row : List ℕ) : Type 0 where
+pub record Phased (tab : Table) (k : ℕ) (work : List ℕ) : Type 0 where
   pub phases :
       (i c j : ℕ)
       → IsTask tab i c
       → IsTask tab i j
       → number tab i c < k
-      → getD row (phasesCell + tasksMost * number tab i c + j) 0 ≡ phaseOf tab i c j
+      → getD work (phasesCell + tasksMost * number tab i c + j) 0 ≡ phaseOf tab i c j
   pub held :
       (i c j : ℕ)
       → IsTask tab i c
       → IsTask tab i j
       → number tab i c < k
-      → getD row (heldCell + tasksMost * number tab i c + j) 0 ≡ heldOf tab i c j
+      → getD work (heldCell + tasksMost * number tab i c + j) 0 ≡ heldOf tab i c j
 
 -- transaction i has n tasks, with numbers from f on
 pub record TasksOf (tab : Table) (i f n : ℕ) : Type 0 where
@@ -51,37 +44,37 @@ pub record TasksOf (tab : Table) (i f n : ℕ) : Type 0 where
   pub first : f ≡ before tab i
   pub count : n ≡ tasks tab i
 
--- the weights of transaction i in mode m, and their load, for the subject a of u
-pub record Loaded (tab : Table) (u a i m : ℕ) (row : List ℕ) : Type 0 where
+-- the weights of transaction i in mode m, and their sum, for the subject a of u
+pub record ModeWeighed (tab : Table) (u a i m : ℕ) (work : List ℕ) : Type 0 where
   pub weight :
       (j : ℕ)
       → IsTask tab i j
-      → getD row (weightsCell + tasksInAll * m + number tab i j) 0 ≡ weight tab u a i m j
-  pub load : getD row (loadsCell + modesMost * i + m) 0 ≡ weights tab u a i m
+      → getD work (weightsCell + tasksInAll * m + number tab i j) 0 ≡ weight tab u a i m j
+  pub modeWeight : getD work (modeWeightsCell + modesMost * i + m) 0 ≡ modeWeight tab u a i m
 
 -- the held-back sums of its candidates
-pub record Summed (tab : Table) (u a i m : ℕ) (row : List ℕ) : Type 0 where
+pub record Summed (tab : Table) (u a i m : ℕ) (work : List ℕ) : Type 0 where
   pub sum :
       (c : ℕ)
       → IsTask tab i c
-      → getD row (sumsCell + 2 * (modesMost * number tab i c + m)) 0
-      + getD row (sumsCell + 2 * (modesMost * number tab i c + m) + 1) 0 * 2 ^ 32
+      → getD work (sumsCell + 2 * (modesMost * number tab i c + m)) 0
+      + getD work (sumsCell + 2 * (modesMost * number tab i c + m) + 1) 0 * 2 ^ 32
       ≡ heldBack tab u a i m c
 
 -- both for the modes below k, where mode m of transaction i is the one at modesMost * i + m
-pub record WeighedTo (tab : Table) (u a k : ℕ) (row : List ℕ) : Type 0 where
-  pub loaded : (i m : ℕ) → i < transactions tab → m < modes tab i → modesMost * i + m < k → Loaded tab u a i m row
-  pub summed : (i m : ℕ) → i < transactions tab → m < modes tab i → modesMost * i + m < k → Summed tab u a i m row
+pub record WeighedTo (tab : Table) (u a k : ℕ) (work : List ℕ) : Type 0 where
+  pub weighed : (i m : ℕ) → i < transactions tab → m < modes tab i → modesMost * i + m < k → ModeWeighed tab u a i m work
+  pub summed : (i m : ℕ) → i < transactions tab → m < modes tab i → modesMost * i + m < k → Summed tab u a i m work
 
--- the links of the rows of tasks with numbers from k on
-pub record LinkedFrom (tab : Table) (u a k : ℕ) (row : List ℕ) : Type 0 where
-  pub rows :
+-- the links of the settings of tasks with numbers from k on
+pub record LinkedFrom (tab : Table) (u a k : ℕ) (work : List ℕ) : Type 0 where
+  pub settings :
       (i m c : ℕ)
       → IsTask tab i c
       → m ≤ modes tab i
       → k ≤ number tab i c
-      → NextRow tab u a (rowNumber tab i m c) (getD row (rowsCell + rowNumber tab i m c) 0)
+      → NextSetting tab u a (settingNumber tab i m c) (getD work (settingsCell + settingNumber tab i m c) 0)
 
 -- the links of the transactions from i on
-pub record OthersFrom (tab : Table) (u a i : ℕ) (row : List ℕ) : Type 0 where
-  pub others : (j : ℕ) → i ≤ j → j ≤ transactions tab → NextOther tab u a j (getD row (othersCell + j) 0)
+pub record OthersFrom (tab : Table) (u a i : ℕ) (work : List ℕ) : Type 0 where
+  pub others : (j : ℕ) → i ≤ j → j ≤ transactions tab → NextOther tab u a j (getD work (othersCell + j) 0)

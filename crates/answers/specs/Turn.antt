@@ -10,19 +10,18 @@ use Rattle.analysis.specs.Charge.{phaseOf}
 use Rattle.analysis.specs.Bound.{Setting, firstJob, lastJob, jobsTo, demand, busy}
 use Rattle.analysis.specs.Chain.{came, over}
 use mathlib.Core.List.{List, [], map, filter}
-use Rattle.analysis.specs.Order as Turns
-use Rattle.analysis.specs.Order.{from}
+use Rattle.analysis.specs.Order.{Turn, from}
 use Rattle.analysis.specs.Rival.{runs?, candidate?}
 use Rattle.analysis.specs.Walk as walk
 use Rattle.analysis.specs.Walk.{ended, through, past}
-use Rattle.answers.specs.declared.chains.Turn.{Turn}
+use Rattle.answers.specs.declared.chains.Instant.{Instant}
 use Rattle.answers.specs.declared.chains.Stop.{Stop}
 use Rattle.answers.specs.declared.chains.Stop.the-variants.{Came, Over, Short}
 use Rattle.answers.specs.declared.walk.Walked.{Walked}
 use Rattle.answers.specs.declared.walk.Walked.the-variants.{Through, Past, Broke}
 
 -- x holds the numbers of that mode and that candidate
-pub record IsTurn (tab : Table) (u a m c : ℕ) (x : Turn) : Type 0 where
+pub record IsInstant (tab : Table) (u a m c : ℕ) (x : Instant) : Type 0 where
   pub setting : Setting tab u a m c
   pub mode : x .mode ≡ m
   pub candidate : x .candidate ≡ c
@@ -52,25 +51,25 @@ pub record Lasts (tab : Table) (u a m c n : ℕ) : Type 0 where
   pub jobs : n ≡ jobsTo tab u a c (lastJob tab u a c L)
 
 -- how a chain stopped, with the evaluations made of a budget, as the code says it
-unfoldable pub stopped : ℕ → walk.Stop → Stop
+unfoldable pub stopped : (budget : ℕ) → walk.Stop → Stop
 stopped budget (ended (came t) left) = Came (record { 0 = t }) (budget - left)
 stopped budget (ended over left) = Over (budget - left)
 stopped budget walk.Stop.short = Short
 
 -- how far a walk came, as the code says it
-unfoldable pub walked : ℕ → walk.Walked → Walked
+unfoldable pub walked : (budget : ℕ) → walk.Walked → Walked
 walked budget (through left best) = Through (record { used = budget - left; best = best })
 walked budget (past left) = Past (budget - left)
 walked budget walk.Walked.short = Broke
 
 -- the turns of the candidates from c on, n of them, in mode m
-unfoldable pub turnsFrom : Table → ℕ → ℕ → ℕ → ℕ → ℕ → List Turns.Turn
+unfoldable pub turnsFrom : Table → (u a m c n : ℕ) → List Turn
 turnsFrom tab u a m c n = map (λ k. record { mode = m; candidate = k }) (filter (candidate? tab u a m) (from c n))
 
-unfoldable pub turnsBy : {A : Type 0} → Dec A → List Turns.Turn → List Turns.Turn
+unfoldable pub turnsBy : {A : Type 0} → Dec A → List Turn → List Turn
 turnsBy (yes h) xs = xs
 turnsBy (no h) xs = []
 
 -- the turns of one mode: none where a does not run
-unfoldable pub modeTurns : Table → ℕ → ℕ → ℕ → List Turns.Turn
+unfoldable pub modeTurns : Table → (u a m : ℕ) → List Turn
 modeTurns tab u a m = turnsBy (runs? tab u m a) (turnsFrom tab u a m 0 (tasks tab u))

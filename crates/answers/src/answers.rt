@@ -9,12 +9,11 @@ use super::work;
 use row::Table;
 ghost use mathlib.Core.Path.{_≡_};
 ghost use Prim.Native.Nat.{_<_};
-ghost use Rattle.row.specs.Row.{tableOf};
+ghost use Rattle.row.specs.Row.{tableOf, RowOfTable};
 ghost use Rattle.table.specs.Number.{inAll};
 ghost use Rattle.periods.specs.Charge.{imposed};
 ghost use Rattle.analysis.specs.Walk.{answer};
-ghost use Rattle.answers.specs.Work.{Lent, IsSubject, tableAt};
-ghost use Rattle.answers.specs.Parts.{RowOfTable};
+ghost use Rattle.answers.specs.Work.{Lent, IsSubject};
 ghost use Rattle.answers.specs.Answered.{answered, cellsFor, CellsAt};
 
 pub(crate) enum TaskAnswer {
@@ -89,7 +88,7 @@ impl TaskAnswer {
 fn answer(row: &[u32; Work::CELLS], s: Subject, budget: u32) -> TaskAnswer
     requires { ⌜ Lent (now row) ⌝ }
     requires { ⌜ IsSubject (now row) s ⌝ }
-    ensures { λ r. ⌜ r ≡ answered (answer imposed (tableAt (now (row .entry))) (s .u) (s .a) budget) ⌝ }
+    ensures { λ r. ⌜ r ≡ answered (answer imposed (tableOf (now (row .entry))) (s .u) (s .a) budget) ⌝ }
 {
     if overload::is_overload(row, s) {
         return TaskAnswer::Overload;
@@ -110,14 +109,14 @@ pub(crate) fn task_cells(
 ) -> TaskCells
     requires { ⌜ RowOfTable (now table) ⌝ }
     requires { ⌜ Lent (now row) ⌝ }
-    requires { ⌜ tableAt (now row) ≡ tableOf (now table) ⌝ }
+    requires { ⌜ tableOf (now row) ≡ tableOf (now table) ⌝ }
     requires { ⌜ k < inAll (tableOf (now table)) ⌝ }
     ensures { λ r. ⌜ CellsAt (tableOf (now (table .entry))) k budget r ⌝ }
     ensures { λ _. ⌜ Lent (now (row .exit)) ⌝ }
-    ensures { λ _. ⌜ tableAt (now (row .exit)) ≡ tableOf (now (table .entry)) ⌝ }
+    ensures { λ _. ⌜ tableOf (now (row .exit)) ≡ tableOf (now (table .entry)) ⌝ }
 {
     let s = work::task(table, k);
     work::weigh(row, s);
     links::link(row, s);
-    answer(&*row, s, budget).cells(Table::deadline(table, s.u, s.a))
+    answer(&*row, s, budget).cells(Table::deadline(table, k))
 }

@@ -10,19 +10,20 @@ use row::Table;
 ghost use mathlib.Core.Path.{_≡_};
 ghost use lib.IntN.{pos, _+ℤ_, _-ℤ_};
 ghost use Prim.Native.Nat.{_+_, _*_, _-_, _<_, _≤_, _^_};
+ghost use Rattle.row.specs.Row.{tableOf};
 ghost use Rattle.periods.specs.Phase.{ceiling};
 ghost use Rattle.periods.specs.Charge.{imposed};
 ghost use Rattle.analysis.specs.Choice.{count};
 ghost use Rattle.analysis.specs.Bound.{Setting, demand, busy};
 ghost use Rattle.analysis.specs.Needed.{start};
 ghost use Rattle.analysis.specs.Walk.{chain, beyond?, never?};
-ghost use Rattle.answers.specs.Lent.{longest};
-ghost use Rattle.answers.specs.Quantity.{laterOf};
-ghost use Rattle.answers.specs.Turn.{IsTurn, Near, Reaches, stopped};
-ghost use Rattle.answers.specs.Work.{Lent, IsSubject, tableAt};
+ghost use Rattle.table.specs.Limits.{horizon};
+ghost use Rattle.charge.specs.Later.{laterOf};
+ghost use Rattle.answers.specs.Turn.{IsInstant, Near, Reaches, stopped};
+ghost use Rattle.answers.specs.Work.{Lent, IsSubject};
 
 // One turn of the walk: a mode and a candidate, with what of the subject they fix.
-pub(crate) struct Turn {
+pub(crate) struct Instant {
     pub(crate) mode: usize,
     pub(crate) candidate: usize,
     pub(crate) period: Ticks,
@@ -48,21 +49,21 @@ fn first_job(held: u64) -> JobNumber
     JobNumber(1 - held as i64)
 }
 
-pub(crate) fn turn_of(row: &[u32; Work::CELLS], s: Subject, m: usize, c: usize) -> Turn
-    requires { ⌜ Lent (now row) ⌝ }
-    requires { ⌜ IsSubject (now row) s ⌝ }
-    requires { ⌜ Setting (tableAt (now row)) (s .u) (s .a) m c ⌝ }
-    ensures { λ r. ⌜ IsTurn (tableAt (now (row .entry))) (s .u) (s .a) m c r ⌝ }
+pub(crate) fn instant_of(work: &[u32; Work::CELLS], s: Subject, m: usize, c: usize) -> Instant
+    requires { ⌜ Lent (now work) ⌝ }
+    requires { ⌜ IsSubject (now work) s ⌝ }
+    requires { ⌜ Setting (tableOf (now work)) (s .u) (s .a) m c ⌝ }
+    ensures { λ r. ⌜ IsInstant (tableOf (now (work .entry))) (s .u) (s .a) m c r ⌝ }
 {
-    Turn {
+    Instant {
         mode: m,
         candidate: c,
-        period: Ticks(reads::period(row, s.u)),
-        offset: Ticks(reads::offset(row, s.u, s.a)),
-        blocking: Ticks(reads::blocking(row, s.u, s.a)),
-        time: Ticks(reads::time(row, s.u, m, s.a)),
-        phase: Ticks(charges::phase_of(row, s.u, c, s.a)),
-        first: first_job(charges::held_of(row, s.u, c, s.a)),
+        period: Ticks(reads::period(work, s.u)),
+        offset: Ticks(reads::offset(work, s.u, s.a)),
+        blocking: Ticks(reads::blocking(work, s.u, s.a)),
+        time: Ticks(reads::time(work, s.u, m, s.a)),
+        phase: Ticks(charges::phase_of(work, s.u, c, s.a)),
+        first: first_job(charges::held_of(work, s.u, c, s.a)),
     }
 }
 
@@ -71,7 +72,7 @@ pub(crate) fn last_job(period: Ticks, phase: Ticks, t: Ticks) -> JobNumber
     requires { ⌜ phase .0 < period .0 ⌝ }
     requires { ⌜ period .0 < 2 ^ 24 ⌝ }
     requires { ⌜ 1 ≤ t .0 ⌝ }
-    requires { ⌜ t .0 ≤ longest ⌝ }
+    requires { ⌜ t .0 ≤ horizon ⌝ }
     ensures { λ r. ⌜ r .0 ≡ ceiling (pos (t .0) -ℤ pos (phase .0)) (period .0) ⌝ }
 {
     if t.0 <= phase.0 {
@@ -94,7 +95,7 @@ pub(crate) fn jobs_to(first: JobNumber, p: JobNumber) -> u64
 }
 
 // B + (p − p0 + 1)·C
-fn start(x: Turn, p: JobNumber) -> Ticks
+fn start(x: Instant, p: JobNumber) -> Ticks
     requires { ⌜ Near (x .first .0) ⌝ }
     requires { ⌜ Near (p .0) ⌝ }
     requires { ⌜ x .blocking .0 < 2 ^ 24 ⌝ }
@@ -107,56 +108,56 @@ fn start(x: Turn, p: JobNumber) -> Ticks
 
 // The demand of the jobs to p, and of the rivals, at t.
 pub(crate) fn demand(
-    row: &[u32; Work::CELLS],
+    work: &[u32; Work::CELLS],
     s: Subject,
-    x: Turn,
+    x: Instant,
     whole: bool,
     p: JobNumber,
     t: Ticks,
 ) -> Ticks
-    requires { ⌜ Lent (now row) ⌝ }
-    requires { ⌜ IsSubject (now row) s ⌝ }
-    requires { ⌜ IsTurn (tableAt (now row)) (s .u) (s .a) (x .mode) (x .candidate) x ⌝ }
+    requires { ⌜ Lent (now work) ⌝ }
+    requires { ⌜ IsSubject (now work) s ⌝ }
+    requires { ⌜ IsInstant (tableOf (now work)) (s .u) (s .a) (x .mode) (x .candidate) x ⌝ }
     requires { ⌜ Near (p .0) ⌝ }
-    requires { ⌜ t .0 ≤ longest ⌝ }
-    ensures { λ r. ⌜ r .0 ≡ demand (laterOf whole) (tableAt (now (row .entry))) (s .u) (s .a) (x .mode) (x .candidate) (p .0) (t .0) ⌝ }
+    requires { ⌜ t .0 ≤ horizon ⌝ }
+    ensures { λ r. ⌜ r .0 ≡ demand (laterOf whole) (tableOf (now (work .entry))) (s .u) (s .a) (x .mode) (x .candidate) (p .0) (t .0) ⌝ }
 {
-    Ticks(start(x, p).0 + charges::rivals(row, s, whole, x.mode, x.candidate, t).0)
+    Ticks(start(x, p).0 + charges::rivals(work, s, whole, x.mode, x.candidate, t).0)
 }
 
 // The demand by t of all jobs up to t, charged at their release.
-fn busy(row: &[u32; Work::CELLS], s: Subject, x: Turn, t: Ticks) -> Ticks
-    requires { ⌜ Lent (now row) ⌝ }
-    requires { ⌜ IsSubject (now row) s ⌝ }
-    requires { ⌜ IsTurn (tableAt (now row)) (s .u) (s .a) (x .mode) (x .candidate) x ⌝ }
+fn busy(work: &[u32; Work::CELLS], s: Subject, x: Instant, t: Ticks) -> Ticks
+    requires { ⌜ Lent (now work) ⌝ }
+    requires { ⌜ IsSubject (now work) s ⌝ }
+    requires { ⌜ IsInstant (tableOf (now work)) (s .u) (s .a) (x .mode) (x .candidate) x ⌝ }
     requires { ⌜ 1 ≤ t .0 ⌝ }
-    requires { ⌜ t .0 ≤ longest ⌝ }
-    ensures { λ r. ⌜ r .0 ≡ busy (tableAt (now (row .entry))) (s .u) (s .a) (x .mode) (x .candidate) (t .0) ⌝ }
+    requires { ⌜ t .0 ≤ horizon ⌝ }
+    ensures { λ r. ⌜ r .0 ≡ busy (tableOf (now (work .entry))) (s .u) (s .a) (x .mode) (x .candidate) (t .0) ⌝ }
 {
     let period = x.period;
     let phase = x.phase;
-    demand(row, s, x, true, last_job(period, phase, t), t)
+    demand(work, s, x, true, last_job(period, phase, t), t)
 }
 
 // The chain for L: it starts at 1, and ends where t comes back or the value exceeds the horizon.
 pub(crate) fn busy_chain(
-    row: &[u32; Work::CELLS],
+    work: &[u32; Work::CELLS],
     s: Subject,
-    x: Turn,
+    x: Instant,
     budget: u32,
     used: u32,
 ) -> Stop
-    requires { ⌜ Lent (now row) ⌝ }
-    requires { ⌜ IsSubject (now row) s ⌝ }
-    requires { ⌜ IsTurn (tableAt (now row)) (s .u) (s .a) (x .mode) (x .candidate) x ⌝ }
+    requires { ⌜ Lent (now work) ⌝ }
+    requires { ⌜ IsSubject (now work) s ⌝ }
+    requires { ⌜ IsInstant (tableOf (now work)) (s .u) (s .a) (x .mode) (x .candidate) x ⌝ }
     requires { ⌜ used ≤ budget ⌝ }
-    ensures { λ r. ⌜ r ≡ stopped budget (chain (busy (tableAt (now (row .entry))) (s .u) (s .a) (x .mode) (x .candidate)) beyond? (budget - used) 1) ⌝ }
+    ensures { λ r. ⌜ r ≡ stopped budget (chain (busy (tableOf (now (work .entry))) (s .u) (s .a) (x .mode) (x .candidate)) beyond? (budget - used) 1) ⌝ }
 {
     let horizon = reads::wide(Table::horizon());
     let mut made = used;
     let mut t: u64 = 1;
     while made < budget {
-        let value = busy(row, s, x, Ticks(t)).0;
+        let value = busy(work, s, x, Ticks(t)).0;
         made += 1;
         if value == t {
             return Stop::Came(Ticks(t), made);
@@ -171,25 +172,25 @@ pub(crate) fn busy_chain(
 
 // The chain of job p: it starts at B + (p − p0 + 1)·C, and ends where t comes back.
 pub(crate) fn job_chain(
-    row: &[u32; Work::CELLS],
+    work: &[u32; Work::CELLS],
     s: Subject,
-    x: Turn,
+    x: Instant,
     p: JobNumber,
     budget: u32,
     used: u32,
 ) -> Stop
-    requires { ⌜ Lent (now row) ⌝ }
-    requires { ⌜ IsSubject (now row) s ⌝ }
-    requires { ⌜ IsTurn (tableAt (now row)) (s .u) (s .a) (x .mode) (x .candidate) x ⌝ }
+    requires { ⌜ Lent (now work) ⌝ }
+    requires { ⌜ IsSubject (now work) s ⌝ }
+    requires { ⌜ IsInstant (tableOf (now work)) (s .u) (s .a) (x .mode) (x .candidate) x ⌝ }
     requires { ⌜ Near (p .0) ⌝ }
-    requires { ⌜ Reaches (tableAt (now row)) (s .u) (s .a) (x .mode) (x .candidate) (p .0) ⌝ }
+    requires { ⌜ Reaches (tableOf (now work)) (s .u) (s .a) (x .mode) (x .candidate) (p .0) ⌝ }
     requires { ⌜ used ≤ budget ⌝ }
-    ensures { λ r. ⌜ r ≡ stopped budget (chain (demand imposed (tableAt (now (row .entry))) (s .u) (s .a) (x .mode) (x .candidate) (p .0)) never? (budget - used) (start (tableAt (now (row .entry))) (s .u) (s .a) (x .mode) (x .candidate) (p .0))) ⌝ }
+    ensures { λ r. ⌜ r ≡ stopped budget (chain (demand imposed (tableOf (now (work .entry))) (s .u) (s .a) (x .mode) (x .candidate) (p .0)) never? (budget - used) (start (tableOf (now (work .entry))) (s .u) (s .a) (x .mode) (x .candidate) (p .0))) ⌝ }
 {
     let mut made = used;
     let mut t = start(x, p).0;
     while made < budget {
-        let value = demand(row, s, x, false, p, Ticks(t)).0;
+        let value = demand(work, s, x, false, p, Ticks(t)).0;
         made += 1;
         if value == t {
             return Stop::Came(Ticks(t), made);

@@ -1,6 +1,6 @@
 // Interference: what the rivals of the task under analysis charge by t. `whole` charges jobs whole at their release;
-// otherwise they charge what they impose. Phases, weights, loads and held-back sums are read from the working row, and t
-// is split by the period once for each transaction. What lies below `rivals` may become faster; its contract stays.
+// otherwise they charge what they impose. Phases, weights and their sums are read from the work cells, and t is
+// split by the period once for each transaction. What lies below `rivals` may become faster; its contract stays.
 use super::layout::Work;
 use super::quantity::Ticks;
 use super::reads;
@@ -8,15 +8,16 @@ use row::Table;
 use row::Transaction;
 ghost use mathlib.Core.Path.{_≡_};
 ghost use Prim.Native.Nat.{_+_, _*_, _<_, _≤_, _^_, _-_, min, max};
-ghost use Rattle.table.specs.Limits.{tasksMost, tasksInAll};
+ghost use Rattle.row.specs.Row.{tableOf, RowOfTable};
+ghost use Rattle.table.specs.Limits.{horizon, tasksMost, tasksInAll};
 ghost use Rattle.table.specs.Number.{number};
 ghost use Rattle.table.specs.Table.{IsTask, transactions, modes};
 ghost use Rattle.analysis.specs.Charge.{phaseOf, heldOf, charge, greatest, rivals};
-ghost use Rattle.answers.specs.Lent.{longest};
-ghost use Rattle.answers.specs.Quantity.{laterOf};
-ghost use Rattle.answers.specs.Split.{moment, IsSplit, IsSplitAt, wholePeriods, restOf, rests};
-ghost use Rattle.answers.specs.Work.{Holds, Lent, Weighs, IsSubject, tableAt};
-ghost use Rattle.answers.specs.Weight.{weight, weights, heldBack};
+ghost use Rattle.charge.specs.Later.{laterOf};
+ghost use Rattle.charge.specs.Split.{wholePeriods, restOf, restAt, rests, chargeCap};
+ghost use Rattle.answers.specs.Split.{moment, IsSplitAt, IsSetting};
+ghost use Rattle.answers.specs.Work.{Lent, Weighs, IsSubject};
+ghost use Rattle.charge.specs.Weight.{weight, modeWeight, heldBack};
 
 // The task under analysis: task a of transaction u, with its priority.
 pub(crate) struct Subject {
@@ -26,34 +27,34 @@ pub(crate) struct Subject {
 }
 
 // Where task j of transaction i stands among the phases and the held-back jobs, when candidate c sets the instant.
-fn place(row: &[u32; Work::CELLS], i: usize, c: usize, j: usize) -> usize
-    requires { ⌜ Holds (now row) ⌝ }
-    requires { ⌜ IsTask (tableAt (now row)) i c ⌝ }
-    requires { ⌜ IsTask (tableAt (now row)) i j ⌝ }
-    ensures place { λ r. ⌜ r ≡ tasksMost * number (tableAt (now (row .entry))) i c + j ⌝ }
+fn place(work: &[u32; Work::CELLS], i: usize, c: usize, j: usize) -> usize
+    requires { ⌜ RowOfTable (now work) ⌝ }
+    requires { ⌜ IsTask (tableOf (now work)) i c ⌝ }
+    requires { ⌜ IsTask (tableOf (now work)) i j ⌝ }
+    ensures place { λ r. ⌜ r ≡ tasksMost * number (tableOf (now (work .entry))) i c + j ⌝ }
     ensures within { λ r. ⌜ r < tasksInAll * tasksMost ⌝ }
 {
-    Transaction::TASKS * (reads::before(row, i) + c) + j
+    Transaction::TASKS * reads::number(work, i, c) + j
 }
 
 // Phase of task j when candidate c sets the critical instant.
-pub(crate) fn phase_of(row: &[u32; Work::CELLS], i: usize, c: usize, j: usize) -> u64
-    requires { ⌜ Lent (now row) ⌝ }
-    requires { ⌜ IsTask (tableAt (now row)) i c ⌝ }
-    requires { ⌜ IsTask (tableAt (now row)) i j ⌝ }
-    ensures { λ r. ⌜ r ≡ phaseOf (tableAt (now (row .entry))) i c j ⌝ }
+pub(crate) fn phase_of(work: &[u32; Work::CELLS], i: usize, c: usize, j: usize) -> u64
+    requires { ⌜ Lent (now work) ⌝ }
+    requires { ⌜ IsTask (tableOf (now work)) i c ⌝ }
+    requires { ⌜ IsTask (tableOf (now work)) i j ⌝ }
+    ensures { λ r. ⌜ r ≡ phaseOf (tableOf (now (work .entry))) i c j ⌝ }
 {
-    reads::wide(row[Work::PHASES + place(row, i, c, j)])
+    reads::wide(work[Work::PHASES + place(work, i, c, j)])
 }
 
 // Jobs of task j held back to the instant.
-pub(crate) fn held_of(row: &[u32; Work::CELLS], i: usize, c: usize, j: usize) -> u64
-    requires { ⌜ Lent (now row) ⌝ }
-    requires { ⌜ IsTask (tableAt (now row)) i c ⌝ }
-    requires { ⌜ IsTask (tableAt (now row)) i j ⌝ }
-    ensures { λ r. ⌜ r ≡ heldOf (tableAt (now (row .entry))) i c j ⌝ }
+pub(crate) fn held_of(work: &[u32; Work::CELLS], i: usize, c: usize, j: usize) -> u64
+    requires { ⌜ Lent (now work) ⌝ }
+    requires { ⌜ IsTask (tableOf (now work)) i c ⌝ }
+    requires { ⌜ IsTask (tableOf (now work)) i j ⌝ }
+    ensures { λ r. ⌜ r ≡ heldOf (tableOf (now (work .entry))) i c j ⌝ }
 {
-    reads::wide(row[Work::HELD + place(row, i, c, j)])
+    reads::wide(work[Work::HELD + place(work, i, c, j)])
 }
 
 pub(crate) fn greater(x: u64, y: u64) -> u64
@@ -83,17 +84,18 @@ pub(crate) struct Split {
     pub(crate) periods: u64,
 }
 
-fn split_of(row: &[u32; Work::CELLS], i: usize, t: Ticks) -> Split
-    requires { ⌜ Holds (now row) ⌝ }
-    requires { ⌜ i < transactions (tableAt (now row)) ⌝ }
-    requires { ⌜ t .0 ≤ longest ⌝ }
-    ensures { λ r. ⌜ IsSplitAt (tableAt (now (row .entry))) i (t .0) r ⌝ }
+fn split_of(work: &[u32; Work::CELLS], i: usize, t: Ticks) -> Split
+    requires { ⌜ RowOfTable (now work) ⌝ }
+    requires { ⌜ i < transactions (tableOf (now work)) ⌝ }
+    requires { ⌜ t .0 ≤ horizon ⌝ }
+    ensures { λ r. ⌜ IsSplitAt (tableOf (now (work .entry))) i (t .0) r ⌝ }
 {
-    let period = reads::period(row, i) as u32;
+    let cell = Table::HEADER_CELLS + i * Transaction::CELLS;
+    let period = work[cell + Transaction::PERIOD_CELL];
     let at = t.0 as u32;
     Split {
-        first: reads::before(row, i),
-        count: reads::tasks(row, i),
+        first: reads::index(work[cell + Transaction::FIRST_CELL]),
+        count: reads::index(work[cell + Transaction::TASKS_CELL]),
         period,
         rest: at % period,
         periods: reads::wide(at / period),
@@ -123,9 +125,29 @@ fn rest_of(x: Split, whole: bool, phase: u32, weight: u32) -> u32
     lesser(x.rest + x.period - phase, weight)
 }
 
+// What task j does for candidate c in mode m.
+fn rest_at(
+    work: &[u32; Work::CELLS],
+    s: Subject,
+    whole: bool,
+    i: usize,
+    m: usize,
+    c: usize,
+    x: Split,
+    j: usize,
+) -> u32
+    requires { ⌜ IsSetting (now work) s i m c x ⌝ }
+    requires { ⌜ j < x .count ⌝ }
+    ensures { λ r. ⌜ r ≡ restAt whole (tableOf (now (work .entry))) (s .u) (s .a) i m c (x .periods) (x .rest) j ⌝ }
+{
+    let phase = work[Work::PHASES + Transaction::TASKS * (x.first + c) + j];
+    let weight = work[Work::WEIGHTS + Table::TASKS * m + (x.first + j)];
+    rest_of(x, whole, phase, weight)
+}
+
 // What all its tasks do.
 fn rests(
-    row: &[u32; Work::CELLS],
+    work: &[u32; Work::CELLS],
     s: Subject,
     whole: bool,
     i: usize,
@@ -133,20 +155,14 @@ fn rests(
     c: usize,
     x: Split,
 ) -> u32
-    requires { ⌜ Lent (now row) ⌝ }
-    requires { ⌜ IsSubject (now row) s ⌝ }
-    requires { ⌜ IsTask (tableAt (now row)) i c ⌝ }
-    requires { ⌜ m < modes (tableAt (now row)) i ⌝ }
-    requires { ⌜ IsSplit (tableAt (now row)) i x ⌝ }
-    ensures { λ r. ⌜ r ≡ rests whole x (tableAt (now (row .entry))) (s .u) (s .a) i m c ⌝ }
+    requires { ⌜ IsSetting (now work) s i m c x ⌝ }
+    ensures { λ r. ⌜ r ≡ rests whole (tableOf (now (work .entry))) (s .u) (s .a) i m c (x .periods) (x .rest) ⌝ }
 {
-    let phases = Work::PHASES + Transaction::TASKS * (x.first + c);
-    let weights = Work::WEIGHTS + Table::TASKS * m + x.first;
     let count = x.count;
     let mut sum: u32 = 0;
     let mut j: usize = 0;
     while j < count {
-        sum += rest_of(x, whole, row[phases + j], row[weights + j]);
+        sum += rest_at(work, s, whole, i, m, c, x, j);
         j += 1;
     }
     sum
@@ -154,7 +170,7 @@ fn rests(
 
 // The same for at most three tasks, without a loop.
 fn few_rests(
-    row: &[u32; Work::CELLS],
+    work: &[u32; Work::CELLS],
     s: Subject,
     whole: bool,
     i: usize,
@@ -162,49 +178,39 @@ fn few_rests(
     c: usize,
     x: Split,
 ) -> u32
-    requires { ⌜ Lent (now row) ⌝ }
-    requires { ⌜ IsSubject (now row) s ⌝ }
-    requires { ⌜ IsTask (tableAt (now row)) i c ⌝ }
-    requires { ⌜ m < modes (tableAt (now row)) i ⌝ }
-    requires { ⌜ IsSplit (tableAt (now row)) i x ⌝ }
+    requires { ⌜ IsSetting (now work) s i m c x ⌝ }
     requires { ⌜ x .count < 4 ⌝ }
-    ensures { λ r. ⌜ r ≡ rests whole x (tableAt (now (row .entry))) (s .u) (s .a) i m c ⌝ }
+    ensures { λ r. ⌜ r ≡ rests whole (tableOf (now (work .entry))) (s .u) (s .a) i m c (x .periods) (x .rest) ⌝ }
 {
-    let phases = Work::PHASES + Transaction::TASKS * (x.first + c);
-    let weights = Work::WEIGHTS + Table::TASKS * m + x.first;
-    let one = rest_of(x, whole, row[phases], row[weights]);
+    let one = rest_at(work, s, whole, i, m, c, x, 0);
     if x.count == 1 {
         return one;
     }
-    let two = one + rest_of(x, whole, row[phases + 1], row[weights + 1]);
+    let two = one + rest_at(work, s, whole, i, m, c, x, 1);
     if x.count == 2 {
         return two;
     }
-    two + rest_of(x, whole, row[phases + 2], row[weights + 2])
+    two + rest_at(work, s, whole, i, m, c, x, 2)
 }
 
 // What the jobs held back to candidate c's instant weigh.
-fn held_back(row: &[u32; Work::CELLS], s: Subject, i: usize, m: usize, c: usize, x: Split) -> u64
-    requires { ⌜ Lent (now row) ⌝ }
-    requires { ⌜ IsSubject (now row) s ⌝ }
-    requires { ⌜ IsTask (tableAt (now row)) i c ⌝ }
-    requires { ⌜ m < modes (tableAt (now row)) i ⌝ }
-    requires { ⌜ IsSplit (tableAt (now row)) i x ⌝ }
-    ensures { λ r. ⌜ r ≡ heldBack (tableAt (now (row .entry))) (s .u) (s .a) i m c ⌝ }
+fn held_back(work: &[u32; Work::CELLS], s: Subject, i: usize, m: usize, c: usize, x: Split) -> u64
+    requires { ⌜ IsSetting (now work) s i m c x ⌝ }
+    ensures { λ r. ⌜ r ≡ heldBack (tableOf (now (work .entry))) (s .u) (s .a) i m c ⌝ }
 {
     let at = Work::SUMS + 2 * (Transaction::MODES * (x.first + c) + m);
-    reads::wide(row[at]) + reads::wide(row[at + 1]) * 4_294_967_296
+    reads::wide(work[at]) + reads::wide(work[at + 1]) * 4_294_967_296
 }
 
-// The weights of transaction i in mode m.
-pub(crate) fn load(row: &[u32; Work::CELLS], s: Subject, i: usize, m: usize) -> u64
-    requires { ⌜ Lent (now row) ⌝ }
-    requires { ⌜ Weighs (now row) s ⌝ }
-    requires { ⌜ i < transactions (tableAt (now row)) ⌝ }
-    requires { ⌜ m < modes (tableAt (now row)) i ⌝ }
-    ensures { λ r. ⌜ r ≡ weights (tableAt (now (row .entry))) (s .u) (s .a) i m ⌝ }
+// The weights of transaction i in mode m together.
+pub(crate) fn mode_weight(work: &[u32; Work::CELLS], s: Subject, i: usize, m: usize) -> u64
+    requires { ⌜ Lent (now work) ⌝ }
+    requires { ⌜ Weighs (now work) s ⌝ }
+    requires { ⌜ i < transactions (tableOf (now work)) ⌝ }
+    requires { ⌜ m < modes (tableOf (now work)) i ⌝ }
+    ensures { λ r. ⌜ r ≡ modeWeight (tableOf (now (work .entry))) (s .u) (s .a) i m ⌝ }
 {
-    reads::wide(row[Work::LOADS + Transaction::MODES * i + m])
+    reads::wide(work[Work::MODE_WEIGHTS + Transaction::MODES * i + m])
 }
 
 fn whole_periods(whole: bool, periods: u64) -> u64
@@ -216,67 +222,38 @@ fn whole_periods(whole: bool, periods: u64) -> u64
     if periods == 0 { 0 } else { periods - 1 }
 }
 
-// A transaction's charge for (c, mode) sums its rivals.
+// A transaction's charge for (c, mode) sums its rivals: `rest` is what they charge beside what is held back and the whole
+// periods.
 fn charge(
-    row: &[u32; Work::CELLS],
+    work: &[u32; Work::CELLS],
     s: Subject,
     whole: bool,
     i: usize,
     m: usize,
     c: usize,
     x: Split,
+    rest: u32,
 ) -> Ticks
-    requires { ⌜ Lent (now row) ⌝ }
-    requires { ⌜ IsSubject (now row) s ⌝ }
-    requires { ⌜ IsTask (tableAt (now row)) i c ⌝ }
-    requires { ⌜ m < modes (tableAt (now row)) i ⌝ }
-    requires { ⌜ IsSplit (tableAt (now row)) i x ⌝ }
-    ensures { λ r. ⌜ r .0 ≡ charge (laterOf whole) (tableAt (now (row .entry))) (s .u) (s .a) i m c (moment x) ⌝ }
+    requires { ⌜ IsSetting (now work) s i m c x ⌝ }
+    requires { ⌜ rest ≡ rests whole (tableOf (now work)) (s .u) (s .a) i m c (x .periods) (x .rest) ⌝ }
+    ensures { λ r. ⌜ r .0 ≡ charge (laterOf whole) (tableOf (now (work .entry))) (s .u) (s .a) i m c (moment x) ⌝ }
 {
-    let passed = whole_periods(whole, x.periods) * load(row, s, i, m);
-    let rest = reads::wide(rests(row, s, whole, i, m, c, x));
-    Ticks(held_back(row, s, i, m, c, x) + passed + rest)
-}
-
-// The same for a transaction of at most three tasks.
-fn few_charge(
-    row: &[u32; Work::CELLS],
-    s: Subject,
-    whole: bool,
-    i: usize,
-    m: usize,
-    c: usize,
-    x: Split,
-) -> Ticks
-    requires { ⌜ Lent (now row) ⌝ }
-    requires { ⌜ IsSubject (now row) s ⌝ }
-    requires { ⌜ IsTask (tableAt (now row)) i c ⌝ }
-    requires { ⌜ m < modes (tableAt (now row)) i ⌝ }
-    requires { ⌜ IsSplit (tableAt (now row)) i x ⌝ }
-    requires { ⌜ x .count < 4 ⌝ }
-    ensures { λ r. ⌜ r .0 ≡ charge (laterOf whole) (tableAt (now (row .entry))) (s .u) (s .a) i m c (moment x) ⌝ }
-{
-    let passed = whole_periods(whole, x.periods) * load(row, s, i, m);
-    let rest = reads::wide(few_rests(row, s, whole, i, m, c, x));
-    Ticks(held_back(row, s, i, m, c, x) + passed + rest)
+    let passed = whole_periods(whole, x.periods) * mode_weight(work, s, i, m);
+    Ticks(held_back(work, s, i, m, c, x) + passed + reads::wide(rest))
 }
 
 // The most that a transaction can charge for (c, mode): a period more than the whole ones.
-fn ceiling(row: &[u32; Work::CELLS], s: Subject, i: usize, m: usize, c: usize, x: Split) -> u64
-    requires { ⌜ Lent (now row) ⌝ }
-    requires { ⌜ IsSubject (now row) s ⌝ }
-    requires { ⌜ IsTask (tableAt (now row)) i c ⌝ }
-    requires { ⌜ m < modes (tableAt (now row)) i ⌝ }
-    requires { ⌜ IsSplit (tableAt (now row)) i x ⌝ }
-    ensures { λ r. ⌜ r ≡ heldBack (tableAt (now (row .entry))) (s .u) (s .a) i m c + (x .periods + 1) * weights (tableAt (now (row .entry))) (s .u) (s .a) i m ⌝ }
+fn charge_cap(work: &[u32; Work::CELLS], s: Subject, i: usize, m: usize, c: usize, x: Split) -> u64
+    requires { ⌜ IsSetting (now work) s i m c x ⌝ }
+    ensures { λ r. ⌜ r ≡ chargeCap (tableOf (now (work .entry))) (s .u) (s .a) i m c (x .periods) ⌝ }
 {
-    held_back(row, s, i, m, c, x) + (x.periods + 1) * load(row, s, i, m)
+    held_back(work, s, i, m, c, x) + (x.periods + 1) * mode_weight(work, s, i, m)
 }
 
-// The greater of `best` and what a row charges: candidate c in mode m. What cannot be greater is passed over, except where
+// The greater of `best` and what a setting charges: candidate c in mode m. What cannot be greater is passed over, except where
 // there is so little to add up that the test costs more.
-fn row_charge(
-    row: &[u32; Work::CELLS],
+fn setting_charge(
+    work: &[u32; Work::CELLS],
     s: Subject,
     whole: bool,
     i: usize,
@@ -285,67 +262,66 @@ fn row_charge(
     x: Split,
     best: u64,
 ) -> u64
-    requires { ⌜ Lent (now row) ⌝ }
-    requires { ⌜ IsSubject (now row) s ⌝ }
-    requires { ⌜ IsTask (tableAt (now row)) i c ⌝ }
-    requires { ⌜ m < modes (tableAt (now row)) i ⌝ }
-    requires { ⌜ IsSplit (tableAt (now row)) i x ⌝ }
-    ensures { λ r. ⌜ r ≡ max best (charge (laterOf whole) (tableAt (now (row .entry))) (s .u) (s .a) i m c (moment x)) ⌝ }
+    requires { ⌜ IsSetting (now work) s i m c x ⌝ }
+    ensures { λ r. ⌜ r ≡ max best (charge (laterOf whole) (tableOf (now (work .entry))) (s .u) (s .a) i m c (moment x)) ⌝ }
 {
     if x.count < 4 {
-        return greater(best, few_charge(row, s, whole, i, m, c, x).0);
+        let rest = few_rests(work, s, whole, i, m, c, x);
+        return greater(best, charge(work, s, whole, i, m, c, x, rest).0);
     }
-    let most = ceiling(row, s, i, m, c, x);
+    let most = charge_cap(work, s, i, m, c, x);
     if most <= best {
         return best;
     }
-    greater(best, charge(row, s, whole, i, m, c, x).0)
+    let rest = rests(work, s, whole, i, m, c, x);
+    greater(best, charge(work, s, whole, i, m, c, x, rest).0)
 }
 
-// The greatest charge of another transaction, over its modes and candidates: over the rows that are charged.
-fn greatest(row: &[u32; Work::CELLS], s: Subject, whole: bool, i: usize, t: Ticks) -> Ticks
-    requires { ⌜ Lent (now row) ⌝ }
-    requires { ⌜ IsSubject (now row) s ⌝ }
-    requires { ⌜ i < transactions (tableAt (now row)) ⌝ }
-    requires { ⌜ t .0 ≤ longest ⌝ }
-    ensures { λ r. ⌜ r .0 ≡ greatest (laterOf whole) (tableAt (now (row .entry))) (s .u) (s .a) i (t .0) ⌝ }
+// The greatest charge of another transaction, over its modes and candidates: over the settings that are charged.
+fn greatest(work: &[u32; Work::CELLS], s: Subject, whole: bool, i: usize, t: Ticks) -> Ticks
+    requires { ⌜ Lent (now work) ⌝ }
+    requires { ⌜ IsSubject (now work) s ⌝ }
+    requires { ⌜ i < transactions (tableOf (now work)) ⌝ }
+    requires { ⌜ t .0 ≤ horizon ⌝ }
+    ensures { λ r. ⌜ r .0 ≡ greatest (laterOf whole) (tableOf (now (work .entry))) (s .u) (s .a) i (t .0) ⌝ }
 {
-    let x = split_of(row, i, t);
+    let x = split_of(work, i, t);
     let end = Transaction::MODES * (x.first + x.count);
     let mut best: u64 = 0;
-    let mut z = reads::index(row[Work::ROWS + Transaction::MODES * x.first]);
+    let mut z = reads::index(work[Work::SETTINGS + Transaction::MODES * x.first]);
     while z < end {
         let m = z % Transaction::MODES;
         let c = z / Transaction::MODES - x.first;
-        best = row_charge(row, s, whole, i, m, c, x, best);
-        z = reads::index(row[Work::ROWS + (z + 1)]);
+        best = setting_charge(work, s, whole, i, m, c, x, best);
+        z = reads::index(work[Work::SETTINGS + (z + 1)]);
     }
     Ticks(best)
 }
 
 // The rivals' charges: in u for the given mode and candidate, elsewhere the greatest.
 pub(crate) fn rivals(
-    row: &[u32; Work::CELLS],
+    work: &[u32; Work::CELLS],
     s: Subject,
     whole: bool,
     m: usize,
     c: usize,
     t: Ticks,
 ) -> Ticks
-    requires { ⌜ Lent (now row) ⌝ }
-    requires { ⌜ IsSubject (now row) s ⌝ }
-    requires { ⌜ IsTask (tableAt (now row)) (s .u) c ⌝ }
-    requires { ⌜ m < modes (tableAt (now row)) (s .u) ⌝ }
-    requires { ⌜ t .0 ≤ longest ⌝ }
-    ensures { λ r. ⌜ r .0 ≡ rivals (laterOf whole) (tableAt (now (row .entry))) (s .u) (s .a) m c (t .0) ⌝ }
+    requires { ⌜ Lent (now work) ⌝ }
+    requires { ⌜ IsSubject (now work) s ⌝ }
+    requires { ⌜ IsTask (tableOf (now work)) (s .u) c ⌝ }
+    requires { ⌜ m < modes (tableOf (now work)) (s .u) ⌝ }
+    requires { ⌜ t .0 ≤ horizon ⌝ }
+    ensures { λ r. ⌜ r .0 ≡ rivals (laterOf whole) (tableOf (now (work .entry))) (s .u) (s .a) m c (t .0) ⌝ }
 {
-    let count = reads::transactions(row);
+    let count = reads::transactions(work);
     let mut sum: u64 = 0;
-    let mut i = reads::index(row[Work::OTHERS]);
+    let mut i = reads::index(work[Work::OTHERS]);
     while i < count {
-        sum += greatest(row, s, whole, i, t).0;
-        i = reads::index(row[Work::OTHERS + (i + 1)]);
+        sum += greatest(work, s, whole, i, t).0;
+        i = reads::index(work[Work::OTHERS + (i + 1)]);
     }
-    let own = split_of(row, s.u, t);
-    Ticks(charge(row, s, whole, s.u, m, c, own).0 + sum)
+    let own = split_of(work, s.u, t);
+    let rest = rests(work, s, whole, s.u, m, c, own);
+    Ticks(charge(work, s, whole, s.u, m, c, own, rest).0 + sum)
 }

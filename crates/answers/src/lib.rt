@@ -8,9 +8,8 @@ use row::Table;
 ghost use mathlib.Core.Path.{_≡_};
 ghost use Prim.Native.Nat.{_+_, _*_, _<_};
 ghost use lib.ListN.{length};
-ghost use Rattle.row.specs.Row.{tableOf};
+ghost use Rattle.row.specs.Row.{tableOf, RowOfTable};
 ghost use Rattle.table.specs.Limits.{tasksInAll};
-ghost use Rattle.answers.specs.Parts.{RowOfTable};
 ghost use Rattle.answers.specs.Answered.{stored};
 ghost use Rattle.answers.specs.Told.{cellsOfTask, filledNumber, filledPlace, Fills, FillsFrom, Responds, RespondsFrom, paired};
 

@@ -1,15 +1,12 @@
-// The fields of a lent table: transaction i, and task j of transaction i. Times of a task are by mode.
+// The fields of the table that work cells begin with, by the readers of its row: transaction i, and task j of transaction i.
 use super::layout::Work;
 use row::Table;
-use row::Task;
-use row::Transaction;
 ghost use mathlib.Core.Path.{_≡_};
-ghost use Prim.Native.Nat.{_<_, _≤_, _+_};
-ghost use Rattle.row.specs.Row.{taskCell, taskCells, rowCells};
-ghost use Rattle.table.specs.Table.{IsTask, transactions, period, modes, tasks, offset, jitter, blocking, deadline, priority, time};
-ghost use Rattle.table.specs.Number.{before, inAll};
+ghost use Prim.Native.Nat.{_<_};
+ghost use Rattle.row.specs.Row.{tableOf, RowOfTable};
+ghost use Rattle.table.specs.Table.{IsTask, transactions, period, modes, tasks, offset, blocking, priority, time};
+ghost use Rattle.table.specs.Number.{before, number, inAll};
 ghost use Rattle.answers.specs.Lent.{Owner};
-ghost use Rattle.answers.specs.Work.{Holds, tableAt};
 
 pub(crate) fn wide(x: u32) -> u64
     ensures { λ r. ⌜ r ≡ x ⌝ }
@@ -23,122 +20,105 @@ pub(crate) fn index(x: u32) -> usize
     x as usize
 }
 
-pub(crate) fn frame(row: &[u32; Work::CELLS]) -> u64
-    ensures { λ r. ⌜ r ≡ tableAt (now (row .entry)) .frame ⌝ }
+pub(crate) fn frame(work: &[u32; Work::CELLS]) -> u64
+    ensures { λ r. ⌜ r ≡ tableOf (now (work .entry)) .frame ⌝ }
 {
-    wide(row[Table::FRAME_CELL])
+    wide(Table::frame(work))
 }
 
-pub(crate) fn transactions(row: &[u32; Work::CELLS]) -> usize
-    requires { ⌜ Holds (now row) ⌝ }
-    ensures { λ r. ⌜ r ≡ transactions (tableAt (now (row .entry))) ⌝ }
+pub(crate) fn transactions(work: &[u32; Work::CELLS]) -> usize
+    ensures { λ r. ⌜ r ≡ transactions (tableOf (now (work .entry))) ⌝ }
 {
-    index(row[Table::COUNT_CELL])
+    index(Table::transactions(work))
 }
 
-pub(crate) fn in_all(row: &[u32; Work::CELLS]) -> usize
-    requires { ⌜ Holds (now row) ⌝ }
-    ensures { λ r. ⌜ r ≡ inAll (tableAt (now (row .entry))) ⌝ }
+pub(crate) fn in_all(work: &[u32; Work::CELLS]) -> usize
+    requires { ⌜ RowOfTable (now work) ⌝ }
+    ensures { λ r. ⌜ r ≡ inAll (tableOf (now (work .entry))) ⌝ }
 {
-    index(row[Table::IN_ALL_CELL])
+    index(Table::in_all(work))
 }
 
-pub(crate) fn period(row: &[u32; Work::CELLS], i: usize) -> u64
-    requires { ⌜ Holds (now row) ⌝ }
-    requires { ⌜ i < transactions (tableAt (now row)) ⌝ }
-    ensures { λ r. ⌜ r ≡ period (tableAt (now (row .entry))) i ⌝ }
+pub(crate) fn period(work: &[u32; Work::CELLS], i: usize) -> u64
+    requires { ⌜ RowOfTable (now work) ⌝ }
+    requires { ⌜ i < transactions (tableOf (now work)) ⌝ }
+    ensures { λ r. ⌜ r ≡ period (tableOf (now (work .entry))) i ⌝ }
 {
-    wide(row[Table::HEADER_CELLS + i * Transaction::CELLS + Transaction::PERIOD_CELL])
+    wide(Table::period(work, i))
 }
 
-pub(crate) fn modes(row: &[u32; Work::CELLS], i: usize) -> usize
-    requires { ⌜ Holds (now row) ⌝ }
-    requires { ⌜ i < transactions (tableAt (now row)) ⌝ }
-    ensures { λ r. ⌜ r ≡ modes (tableAt (now (row .entry))) i ⌝ }
+pub(crate) fn modes(work: &[u32; Work::CELLS], i: usize) -> usize
+    requires { ⌜ RowOfTable (now work) ⌝ }
+    requires { ⌜ i < transactions (tableOf (now work)) ⌝ }
+    ensures { λ r. ⌜ r ≡ modes (tableOf (now (work .entry))) i ⌝ }
 {
-    index(row[Table::HEADER_CELLS + i * Transaction::CELLS + Transaction::MODES_CELL])
+    index(Table::modes(work, i))
 }
 
-pub(crate) fn before(row: &[u32; Work::CELLS], i: usize) -> usize
-    requires { ⌜ Holds (now row) ⌝ }
-    requires { ⌜ i < transactions (tableAt (now row)) ⌝ }
-    ensures { λ r. ⌜ r ≡ before (tableAt (now (row .entry))) i ⌝ }
+// The number of tasks before transaction i.
+pub(crate) fn before(work: &[u32; Work::CELLS], i: usize) -> usize
+    requires { ⌜ RowOfTable (now work) ⌝ }
+    requires { ⌜ i < transactions (tableOf (now work)) ⌝ }
+    ensures { λ r. ⌜ r ≡ before (tableOf (now (work .entry))) i ⌝ }
 {
-    index(row[Table::HEADER_CELLS + i * Transaction::CELLS + Transaction::FIRST_CELL])
+    index(Table::first(work, i))
 }
 
-pub(crate) fn tasks(row: &[u32; Work::CELLS], i: usize) -> usize
-    requires { ⌜ Holds (now row) ⌝ }
-    requires { ⌜ i < transactions (tableAt (now row)) ⌝ }
-    ensures { λ r. ⌜ r ≡ tasks (tableAt (now (row .entry))) i ⌝ }
+pub(crate) fn tasks(work: &[u32; Work::CELLS], i: usize) -> usize
+    requires { ⌜ RowOfTable (now work) ⌝ }
+    requires { ⌜ i < transactions (tableOf (now work)) ⌝ }
+    ensures { λ r. ⌜ r ≡ tasks (tableOf (now (work .entry))) i ⌝ }
 {
-    index(row[Table::HEADER_CELLS + i * Transaction::CELLS + Transaction::TASKS_CELL])
+    index(Table::tasks(work, i))
 }
 
-// The first cell of task j of transaction i.
-fn task_cell(row: &[u32; Work::CELLS], i: usize, j: usize) -> usize
-    requires { ⌜ Holds (now row) ⌝ }
-    requires { ⌜ IsTask (tableAt (now row)) i j ⌝ }
-    ensures cell { λ r. ⌜ r ≡ taskCell (before (tableAt (now (row .entry))) i + j) ⌝ }
-    ensures within { λ r. ⌜ r + taskCells ≤ rowCells ⌝ }
+// The number of task j of transaction i.
+pub(crate) fn number(row: &[u32], i: usize, j: usize) -> usize
+    requires { ⌜ RowOfTable (now row) ⌝ }
+    requires { ⌜ IsTask (tableOf (now row)) i j ⌝ }
+    ensures { λ r. ⌜ r ≡ number (tableOf (now (row .entry))) i j ⌝ }
 {
-    Table::TASKS_CELL + (before(row, i) + j) * Task::CELLS
-}
-
-pub(crate) fn offset(row: &[u32; Work::CELLS], i: usize, j: usize) -> u64
-    requires { ⌜ Holds (now row) ⌝ }
-    requires { ⌜ IsTask (tableAt (now row)) i j ⌝ }
-    ensures { λ r. ⌜ r ≡ offset (tableAt (now (row .entry))) i j ⌝ }
-{
-    wide(row[task_cell(row, i, j) + Task::OFFSET_CELL])
-}
-
-pub(crate) fn jitter(row: &[u32; Work::CELLS], i: usize, j: usize) -> u64
-    requires { ⌜ Holds (now row) ⌝ }
-    requires { ⌜ IsTask (tableAt (now row)) i j ⌝ }
-    ensures { λ r. ⌜ r ≡ jitter (tableAt (now (row .entry))) i j ⌝ }
-{
-    wide(row[task_cell(row, i, j) + Task::JITTER_CELL])
-}
-
-pub(crate) fn blocking(row: &[u32; Work::CELLS], i: usize, j: usize) -> u64
-    requires { ⌜ Holds (now row) ⌝ }
-    requires { ⌜ IsTask (tableAt (now row)) i j ⌝ }
-    ensures { λ r. ⌜ r ≡ blocking (tableAt (now (row .entry))) i j ⌝ }
-{
-    wide(row[task_cell(row, i, j) + Task::BLOCKING_CELL])
-}
-
-pub(crate) fn deadline(row: &[u32; Work::CELLS], i: usize, j: usize) -> u32
-    requires { ⌜ Holds (now row) ⌝ }
-    requires { ⌜ IsTask (tableAt (now row)) i j ⌝ }
-    ensures { λ r. ⌜ r ≡ deadline (tableAt (now (row .entry))) i j ⌝ }
-{
-    row[task_cell(row, i, j) + Task::DEADLINE_CELL]
-}
-
-pub(crate) fn priority(row: &[u32; Work::CELLS], i: usize, j: usize) -> u32
-    requires { ⌜ Holds (now row) ⌝ }
-    requires { ⌜ IsTask (tableAt (now row)) i j ⌝ }
-    ensures { λ r. ⌜ r ≡ priority (tableAt (now (row .entry))) i j ⌝ }
-{
-    row[task_cell(row, i, j) + Task::PRIORITY_CELL]
+    index(Table::first(row, i)) + j
 }
 
 // The transaction of task number k.
-pub(crate) fn owner(row: &[u32; Work::CELLS], k: usize) -> usize
-    requires { ⌜ Holds (now row) ⌝ }
-    requires { ⌜ k < inAll (tableAt (now row)) ⌝ }
-    ensures { λ r. ⌜ Owner (tableAt (now (row .entry))) k r ⌝ }
+pub(crate) fn owner(work: &[u32; Work::CELLS], k: usize) -> usize
+    requires { ⌜ RowOfTable (now work) ⌝ }
+    requires { ⌜ k < inAll (tableOf (now work)) ⌝ }
+    ensures { λ r. ⌜ Owner (tableOf (now (work .entry))) k r ⌝ }
 {
-    index(row[Table::TASKS_CELL + k * Task::CELLS + Task::OWNER_CELL])
+    index(Table::owner(work, k))
 }
 
-pub(crate) fn time(row: &[u32; Work::CELLS], i: usize, m: usize, j: usize) -> u64
-    requires { ⌜ Holds (now row) ⌝ }
-    requires { ⌜ IsTask (tableAt (now row)) i j ⌝ }
-    requires { ⌜ m < modes (tableAt (now row)) i ⌝ }
-    ensures { λ r. ⌜ r ≡ time (tableAt (now (row .entry))) i m j ⌝ }
+pub(crate) fn offset(work: &[u32; Work::CELLS], i: usize, j: usize) -> u64
+    requires { ⌜ RowOfTable (now work) ⌝ }
+    requires { ⌜ IsTask (tableOf (now work)) i j ⌝ }
+    ensures { λ r. ⌜ r ≡ offset (tableOf (now (work .entry))) i j ⌝ }
 {
-    wide(row[task_cell(row, i, j) + (Task::TIMES_CELL + m)])
+    wide(Table::offset(work, number(work, i, j)))
+}
+
+pub(crate) fn blocking(work: &[u32; Work::CELLS], i: usize, j: usize) -> u64
+    requires { ⌜ RowOfTable (now work) ⌝ }
+    requires { ⌜ IsTask (tableOf (now work)) i j ⌝ }
+    ensures { λ r. ⌜ r ≡ blocking (tableOf (now (work .entry))) i j ⌝ }
+{
+    wide(Table::blocking(work, number(work, i, j)))
+}
+
+pub(crate) fn priority(work: &[u32; Work::CELLS], i: usize, j: usize) -> u32
+    requires { ⌜ RowOfTable (now work) ⌝ }
+    requires { ⌜ IsTask (tableOf (now work)) i j ⌝ }
+    ensures { λ r. ⌜ r ≡ priority (tableOf (now (work .entry))) i j ⌝ }
+{
+    Table::priority(work, number(work, i, j))
+}
+
+pub(crate) fn time(work: &[u32; Work::CELLS], i: usize, m: usize, j: usize) -> u64
+    requires { ⌜ RowOfTable (now work) ⌝ }
+    requires { ⌜ IsTask (tableOf (now work)) i j ⌝ }
+    requires { ⌜ m < modes (tableOf (now work)) i ⌝ }
+    ensures { λ r. ⌜ r ≡ time (tableOf (now (work .entry))) i m j ⌝ }
+{
+    wide(Table::time(work, number(work, i, j), m))
 }

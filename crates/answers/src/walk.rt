@@ -1,8 +1,8 @@
 // The walk of one task: its modes, in each its candidates, and for each the L chain and then the jobs, lowest first. The
 // state goes in by value and comes back, with the count of evaluations and the greatest response so far.
 use super::chains;
+use super::chains::Instant;
 use super::chains::Stop;
-use super::chains::Turn;
 use super::charges::Subject;
 use super::charges::greater;
 use super::layout::Work;
@@ -14,6 +14,8 @@ use super::reads;
 ghost use mathlib.Core.Path.{_≡_};
 ghost use lib.IntN.{pos, _+ℤ_, _-ℤ_, _*ℤ_};
 ghost use Prim.Native.Nat.{_-_, _<_, _≤_, _^_};
+ghost use Rattle.row.specs.Row.{tableOf};
+ghost use Rattle.table.specs.Limits.{horizon};
 ghost use Rattle.table.specs.Table.{modes, tasks};
 ghost use Rattle.periods.specs.Charge.{imposed};
 ghost use Rattle.analysis.specs.Choice.{count};
@@ -21,9 +23,9 @@ ghost use Rattle.analysis.specs.Rival.{Runs, candidate?};
 ghost use Rattle.analysis.specs.Bound.{Setting};
 ghost use Rattle.analysis.specs.Order.{walkOrder};
 ghost use Rattle.analysis.specs.Walk.{walkJobs, walkTurn, walkTurns};
-ghost use Rattle.answers.specs.Lent.{tested, longest};
-ghost use Rattle.answers.specs.Turn.{IsTurn, Near, Lasts, walked, turnsFrom, modeTurns};
-ghost use Rattle.answers.specs.Work.{Lent, IsSubject, tableAt};
+ghost use Rattle.answers.specs.Lent.{tested};
+ghost use Rattle.answers.specs.Turn.{IsInstant, Near, Lasts, walked, turnsFrom, modeTurns};
+ghost use Rattle.answers.specs.Work.{Lent, IsSubject};
 
 // The evaluations made so far, and the greatest response so far.
 pub(crate) struct Walk {
@@ -49,12 +51,12 @@ fn arrival(period: Ticks, phase: Ticks, p: JobNumber) -> Moment
 }
 
 // The response of job p that completes at w, cut at 0.
-fn response(x: Turn, p: JobNumber, w: Ticks) -> u64
+fn response(x: Instant, p: JobNumber, w: Ticks) -> u64
     requires { ⌜ x .period .0 < 2 ^ 24 ⌝ }
     requires { ⌜ x .phase .0 < 2 ^ 24 ⌝ }
     requires { ⌜ x .offset .0 < 2 ^ 24 ⌝ }
     requires { ⌜ Near (p .0) ⌝ }
-    requires { ⌜ w .0 ≤ longest ⌝ }
+    requires { ⌜ w .0 ≤ horizon ⌝ }
     ensures { λ r. ⌜ r ≡ count (pos (w .0) -ℤ (pos (x .phase .0) +ℤ (p .0 -ℤ pos 1) *ℤ pos (x .period .0)) +ℤ pos (x .offset .0)) ⌝ }
 {
     let period = x.period;
@@ -76,17 +78,17 @@ fn job(first: JobNumber, n: u64) -> JobNumber
 }
 
 // Whether task c is a candidate of the subject in mode m.
-fn is_candidate(row: &[u32; Work::CELLS], s: Subject, m: usize, c: usize) -> bool
-    requires { ⌜ Lent (now row) ⌝ }
-    requires { ⌜ IsSubject (now row) s ⌝ }
-    requires { ⌜ m < modes (tableAt (now row)) (s .u) ⌝ }
-    requires { ⌜ c < tasks (tableAt (now row)) (s .u) ⌝ }
-    ensures { λ r. ⌜ r ≡ tested (candidate? (tableAt (now (row .entry))) (s .u) (s .a) m c) ⌝ }
+fn is_candidate(work: &[u32; Work::CELLS], s: Subject, m: usize, c: usize) -> bool
+    requires { ⌜ Lent (now work) ⌝ }
+    requires { ⌜ IsSubject (now work) s ⌝ }
+    requires { ⌜ m < modes (tableOf (now work)) (s .u) ⌝ }
+    requires { ⌜ c < tasks (tableOf (now work)) (s .u) ⌝ }
+    ensures { λ r. ⌜ r ≡ tested (candidate? (tableOf (now (work .entry))) (s .u) (s .a) m c) ⌝ }
 {
     if c == s.a {
         return true;
     }
-    if links::weight(row, s, s.u, m, c) == 0 {
+    if links::weight(work, s, s.u, m, c) == 0 {
         return false;
     }
     true
@@ -102,24 +104,24 @@ impl Walk {
     // One job: its chain, and its response.
     fn job(
         self,
-        row: &[u32; Work::CELLS],
+        work: &[u32; Work::CELLS],
         s: Subject,
-        x: Turn,
+        x: Instant,
         n: u64,
         jobs: u64,
         budget: u32,
     ) -> Walked
-        requires { ⌜ Lent (now row) ⌝ }
-        requires { ⌜ IsSubject (now row) s ⌝ }
-        requires { ⌜ IsTurn (tableAt (now row)) (s .u) (s .a) (x .mode) (x .candidate) x ⌝ }
-        requires { ⌜ Lasts (tableAt (now row)) (s .u) (s .a) (x .mode) (x .candidate) jobs ⌝ }
+        requires { ⌜ Lent (now work) ⌝ }
+        requires { ⌜ IsSubject (now work) s ⌝ }
+        requires { ⌜ IsInstant (tableOf (now work)) (s .u) (s .a) (x .mode) (x .candidate) x ⌝ }
+        requires { ⌜ Lasts (tableOf (now work)) (s .u) (s .a) (x .mode) (x .candidate) jobs ⌝ }
         requires { ⌜ n < jobs ⌝ }
         requires { ⌜ self .used ≤ budget ⌝ }
-        ensures { λ r. ⌜ r ≡ walked budget (walkJobs imposed (tableAt (now (row .entry))) (s .u) (s .a) (x .mode) (x .candidate) 1 n (budget - self .used) (self .best)) ⌝ }
+        ensures { λ r. ⌜ r ≡ walked budget (walkJobs imposed (tableOf (now (work .entry))) (s .u) (s .a) (x .mode) (x .candidate) 1 n (budget - self .used) (self .best)) ⌝ }
     {
         let first = x.first;
         let p = job(first, n);
-        match chains::job_chain(row, s, x, p, budget, self.used) {
+        match chains::job_chain(work, s, x, p, budget, self.used) {
             Stop::Came(w, used) => Walked::Through(Walk {
                 used,
                 best: greater(self.best, response(x, p, w)),
@@ -130,18 +132,25 @@ impl Walk {
     }
 
     // The jobs of one turn, lowest first.
-    fn jobs(self, row: &[u32; Work::CELLS], s: Subject, x: Turn, jobs: u64, budget: u32) -> Walked
-        requires { ⌜ Lent (now row) ⌝ }
-        requires { ⌜ IsSubject (now row) s ⌝ }
-        requires { ⌜ IsTurn (tableAt (now row)) (s .u) (s .a) (x .mode) (x .candidate) x ⌝ }
-        requires { ⌜ Lasts (tableAt (now row)) (s .u) (s .a) (x .mode) (x .candidate) jobs ⌝ }
+    fn jobs(
+        self,
+        work: &[u32; Work::CELLS],
+        s: Subject,
+        x: Instant,
+        jobs: u64,
+        budget: u32,
+    ) -> Walked
+        requires { ⌜ Lent (now work) ⌝ }
+        requires { ⌜ IsSubject (now work) s ⌝ }
+        requires { ⌜ IsInstant (tableOf (now work)) (s .u) (s .a) (x .mode) (x .candidate) x ⌝ }
+        requires { ⌜ Lasts (tableOf (now work)) (s .u) (s .a) (x .mode) (x .candidate) jobs ⌝ }
         requires { ⌜ self .used ≤ budget ⌝ }
-        ensures { λ r. ⌜ r ≡ walked budget (walkJobs imposed (tableAt (now (row .entry))) (s .u) (s .a) (x .mode) (x .candidate) jobs 0 (budget - self .used) (self .best)) ⌝ }
+        ensures { λ r. ⌜ r ≡ walked budget (walkJobs imposed (tableOf (now (work .entry))) (s .u) (s .a) (x .mode) (x .candidate) jobs 0 (budget - self .used) (self .best)) ⌝ }
     {
         let mut state = self;
         let mut n: u64 = 0;
         while n < jobs {
-            let step = state.job(row, s, x, n, jobs, budget);
+            let step = state.job(work, s, x, n, jobs, budget);
             let Walked::Through(next) = step else {
                 return step;
             };
@@ -152,15 +161,15 @@ impl Walk {
     }
 
     // One turn: the L chain, then the jobs.
-    fn turn(self, row: &[u32; Work::CELLS], s: Subject, m: usize, c: usize, budget: u32) -> Walked
-        requires { ⌜ Lent (now row) ⌝ }
-        requires { ⌜ IsSubject (now row) s ⌝ }
-        requires { ⌜ Setting (tableAt (now row)) (s .u) (s .a) m c ⌝ }
+    fn turn(self, work: &[u32; Work::CELLS], s: Subject, m: usize, c: usize, budget: u32) -> Walked
+        requires { ⌜ Lent (now work) ⌝ }
+        requires { ⌜ IsSubject (now work) s ⌝ }
+        requires { ⌜ Setting (tableOf (now work)) (s .u) (s .a) m c ⌝ }
         requires { ⌜ self .used ≤ budget ⌝ }
-        ensures { λ r. ⌜ r ≡ walked budget (walkTurn imposed (tableAt (now (row .entry))) (s .u) (s .a) (record { mode = m; candidate = c }) (budget - self .used) (self .best)) ⌝ }
+        ensures { λ r. ⌜ r ≡ walked budget (walkTurn imposed (tableOf (now (work .entry))) (s .u) (s .a) (record { mode = m; candidate = c }) (budget - self .used) (self .best)) ⌝ }
     {
-        let x = chains::turn_of(row, s, m, c);
-        match chains::busy_chain(row, s, x, budget, self.used) {
+        let x = chains::instant_of(work, s, m, c);
+        match chains::busy_chain(work, s, x, budget, self.used) {
             Stop::Came(length, used) => {
                 let period = x.period;
                 let phase = x.phase;
@@ -169,7 +178,7 @@ impl Walk {
                 Walk {
                     used,
                     best: self.best,
-                }.jobs(row, s, x, jobs, budget)
+                }.jobs(work, s, x, jobs, budget)
             }
             Stop::Over(used) => Walked::Past(used),
             Stop::Short => Walked::Broke,
@@ -179,43 +188,43 @@ impl Walk {
     // The turn of c, if it is a candidate.
     fn candidate(
         self,
-        row: &[u32; Work::CELLS],
+        work: &[u32; Work::CELLS],
         s: Subject,
         m: usize,
         c: usize,
         budget: u32,
     ) -> Walked
-        requires { ⌜ Lent (now row) ⌝ }
-        requires { ⌜ IsSubject (now row) s ⌝ }
-        requires { ⌜ m < modes (tableAt (now row)) (s .u) ⌝ }
-        requires { ⌜ Runs (tableAt (now row)) (s .u) m (s .a) ⌝ }
-        requires { ⌜ c < tasks (tableAt (now row)) (s .u) ⌝ }
+        requires { ⌜ Lent (now work) ⌝ }
+        requires { ⌜ IsSubject (now work) s ⌝ }
+        requires { ⌜ m < modes (tableOf (now work)) (s .u) ⌝ }
+        requires { ⌜ Runs (tableOf (now work)) (s .u) m (s .a) ⌝ }
+        requires { ⌜ c < tasks (tableOf (now work)) (s .u) ⌝ }
         requires { ⌜ self .used ≤ budget ⌝ }
-        ensures { λ r. ⌜ r ≡ walked budget (walkTurns imposed (tableAt (now (row .entry))) (s .u) (s .a) (turnsFrom (tableAt (now (row .entry))) (s .u) (s .a) m c 1) (budget - self .used) (self .best)) ⌝ }
+        ensures { λ r. ⌜ r ≡ walked budget (walkTurns imposed (tableOf (now (work .entry))) (s .u) (s .a) (turnsFrom (tableOf (now (work .entry))) (s .u) (s .a) m c 1) (budget - self .used) (self .best)) ⌝ }
     {
-        if is_candidate(row, s, m, c) {
-            self.turn(row, s, m, c, budget)
+        if is_candidate(work, s, m, c) {
+            self.turn(work, s, m, c, budget)
         } else {
             Walked::Through(self)
         }
     }
 
     // The candidates of one mode, in image order.
-    fn mode(self, row: &[u32; Work::CELLS], s: Subject, m: usize, budget: u32) -> Walked
-        requires { ⌜ Lent (now row) ⌝ }
-        requires { ⌜ IsSubject (now row) s ⌝ }
-        requires { ⌜ m < modes (tableAt (now row)) (s .u) ⌝ }
+    fn mode(self, work: &[u32; Work::CELLS], s: Subject, m: usize, budget: u32) -> Walked
+        requires { ⌜ Lent (now work) ⌝ }
+        requires { ⌜ IsSubject (now work) s ⌝ }
+        requires { ⌜ m < modes (tableOf (now work)) (s .u) ⌝ }
         requires { ⌜ self .used ≤ budget ⌝ }
-        ensures { λ r. ⌜ r ≡ walked budget (walkTurns imposed (tableAt (now (row .entry))) (s .u) (s .a) (modeTurns (tableAt (now (row .entry))) (s .u) (s .a) m) (budget - self .used) (self .best)) ⌝ }
+        ensures { λ r. ⌜ r ≡ walked budget (walkTurns imposed (tableOf (now (work .entry))) (s .u) (s .a) (modeTurns (tableOf (now (work .entry))) (s .u) (s .a) m) (budget - self .used) (self .best)) ⌝ }
     {
-        if reads::time(row, s.u, m, s.a) == 0 {
+        if reads::time(work, s.u, m, s.a) == 0 {
             return Walked::Through(self);
         }
-        let count = reads::tasks(row, s.u);
+        let count = reads::tasks(work, s.u);
         let mut state = self;
         let mut c: usize = 0;
         while c < count {
-            let step = state.candidate(row, s, m, c, budget);
+            let step = state.candidate(work, s, m, c, budget);
             let Walked::Through(next) = step else {
                 return step;
             };
@@ -226,17 +235,17 @@ impl Walk {
     }
 
     // The whole walk: the modes in ascending order.
-    pub(crate) fn modes(self, row: &[u32; Work::CELLS], s: Subject, budget: u32) -> Walked
-        requires { ⌜ Lent (now row) ⌝ }
-        requires { ⌜ IsSubject (now row) s ⌝ }
+    pub(crate) fn modes(self, work: &[u32; Work::CELLS], s: Subject, budget: u32) -> Walked
+        requires { ⌜ Lent (now work) ⌝ }
+        requires { ⌜ IsSubject (now work) s ⌝ }
         requires { ⌜ self .used ≤ budget ⌝ }
-        ensures { λ r. ⌜ r ≡ walked budget (walkTurns imposed (tableAt (now (row .entry))) (s .u) (s .a) (walkOrder (tableAt (now (row .entry))) (s .u) (s .a)) (budget - self .used) (self .best)) ⌝ }
+        ensures { λ r. ⌜ r ≡ walked budget (walkTurns imposed (tableOf (now (work .entry))) (s .u) (s .a) (walkOrder (tableOf (now (work .entry))) (s .u) (s .a)) (budget - self .used) (self .best)) ⌝ }
     {
-        let count = reads::modes(row, s.u);
+        let count = reads::modes(work, s.u);
         let mut state = self;
         let mut m: usize = 0;
         while m < count {
-            let step = state.mode(row, s, m, budget);
+            let step = state.mode(work, s, m, budget);
             let Walked::Through(next) = step else {
                 return step;
             };

@@ -1,6 +1,6 @@
-// Filling the working row: the table's row with its phases and held-back jobs once for a table, and the weights with their
+// Filling the work cells: the table's row with its phases and held-back jobs once for a table, and the weights with their
 // sums once for each task under analysis. What is read of the table comes from its own row at first, and then from the
-// working row.
+// work cells.
 use super::charges::Subject;
 use super::layout::Work;
 use super::reads;
@@ -13,12 +13,12 @@ ghost use lib.ListN.{length, take};
 ghost use Rattle.table.specs.Table.{IsTask, transactions, modes};
 ghost use Rattle.table.specs.Limits.{modesMost};
 ghost use Rattle.table.specs.Number.{before, inAll};
-ghost use Rattle.row.specs.Row.{rowCells, tableOf};
+ghost use Rattle.row.specs.Row.{rowCells, tableOf, RowOfTable};
 ghost use Rattle.periods.specs.Phase.{phase};
 ghost use Rattle.analysis.specs.Charge.{phaseOf, heldOf};
-ghost use Rattle.answers.specs.Work.{workCells, weightsCell, Holds, Lent, Chosen, Weighs, tableAt};
-ghost use Rattle.answers.specs.Weight.{weight, heldBack};
-ghost use Rattle.answers.specs.Parts.{RowOfTable, SameTo, IsSubjectAt, Phased, TasksOf, Loaded, WeighedTo};
+ghost use Rattle.answers.specs.Work.{workCells, weightsCell, Lent, Chosen, Weighs};
+ghost use Rattle.charge.specs.Weight.{weight, heldBack};
+ghost use Rattle.answers.specs.Parts.{SameTo, IsSubjectAt, Phased, TasksOf, ModeWeighed, WeighedTo};
 
 // (offset − instant) mod period
 fn phase(period: u32, offset: u32, instant: u32) -> u32
@@ -41,15 +41,12 @@ pub(crate) fn task(table: &[u32; Table::CELLS], k: usize) -> Subject
     requires { ⌜ k < inAll (tableOf (now table)) ⌝ }
     ensures { λ r. ⌜ IsSubjectAt (tableOf (now (table .entry))) k r ⌝ }
 {
-    let u = reads::index(Table::cell(
-        table,
-        Table::TASKS_CELL + k * Task::CELLS + Task::OWNER_CELL,
-    ));
+    let u = reads::index(Table::owner(table, k));
     let a = k - reads::index(Table::first(table, u));
     Subject {
         u,
         a,
-        priority: Table::priority(table, u, a),
+        priority: Table::priority(table, k),
     }
 }
 
@@ -57,12 +54,15 @@ pub(crate) fn task(table: &[u32; Table::CELLS], k: usize) -> Subject
 fn phase_of(table: &[u32; Table::CELLS], i: usize, c: usize, j: usize) -> u32
     requires { ⌜ RowOfTable (now table) ⌝ }
     requires { ⌜ IsTask (tableOf (now table)) i c ⌝ }
+    requires { ⌜ IsTask (tableOf (now table)) i j ⌝ }
     ensures { λ r. ⌜ r ≡ phaseOf (tableOf (now (table .entry))) i c j ⌝ }
 {
+    let k = reads::number(table, i, c);
+    let offset = Table::offset(table, reads::number(table, i, j));
     phase(
         Table::period(table, i),
-        Table::offset(table, i, j),
-        Table::offset(table, i, c) + Table::jitter(table, i, c),
+        offset,
+        Table::offset(table, k) + Table::jitter(table, k),
     )
 }
 
@@ -73,7 +73,8 @@ fn held_of(table: &[u32; Table::CELLS], i: usize, c: usize, j: usize) -> u32
     requires { ⌜ IsTask (tableOf (now table)) i j ⌝ }
     ensures { λ r. ⌜ r ≡ heldOf (tableOf (now (table .entry))) i c j ⌝ }
 {
-    (Table::jitter(table, i, j) + phase_of(table, i, c, j)) / Table::period(table, i)
+    let jitter = Table::jitter(table, reads::number(table, i, j));
+    (jitter + phase_of(table, i, c, j)) / Table::period(table, i)
 }
 
 fn copy(table: &[u32; Table::CELLS], work: &mut [u32; Work::CELLS])
@@ -124,12 +125,12 @@ fn phases(table: &[u32; Table::CELLS], work: &mut [u32; Work::CELLS])
     }
 }
 
-// The working row of a table, once for all its tasks.
+// The work cells of a table, once for all its tasks.
 pub(crate) fn prepare(table: &[u32; Table::CELLS], work: &mut [u32; Work::CELLS])
     requires { ⌜ RowOfTable (now table) ⌝ }
     requires { ⌜ length (now work) ≡ workCells ⌝ }
     ensures { λ _. ⌜ Lent (now (work .exit)) ⌝ }
-    ensures { λ _. ⌜ tableAt (now (work .exit)) ≡ tableOf (now (table .entry)) ⌝ }
+    ensures { λ _. ⌜ tableOf (now (work .exit)) ≡ tableOf (now (table .entry)) ⌝ }
 {
     copy(table, work);
     phases(table, work);
@@ -137,12 +138,12 @@ pub(crate) fn prepare(table: &[u32; Table::CELLS], work: &mut [u32; Work::CELLS]
 
 // The time of task j, number k, in mode m where it is a rival of the subject, else 0.
 fn weight(work: &[u32; Work::CELLS], s: Subject, i: usize, m: usize, j: usize, k: usize) -> u32
-    requires { ⌜ Holds (now work) ⌝ }
-    requires { ⌜ Chosen (tableAt (now work)) s ⌝ }
-    requires { ⌜ IsTask (tableAt (now work)) i j ⌝ }
-    requires { ⌜ m < modes (tableAt (now work)) i ⌝ }
-    requires { ⌜ k ≡ before (tableAt (now work)) i + j ⌝ }
-    ensures { λ r. ⌜ r ≡ weight (tableAt (now (work .entry))) (s .u) (s .a) i m j ⌝ }
+    requires { ⌜ RowOfTable (now work) ⌝ }
+    requires { ⌜ Chosen (tableOf (now work)) s ⌝ }
+    requires { ⌜ IsTask (tableOf (now work)) i j ⌝ }
+    requires { ⌜ m < modes (tableOf (now work)) i ⌝ }
+    requires { ⌜ k ≡ before (tableOf (now work)) i + j ⌝ }
+    ensures { λ r. ⌜ r ≡ weight (tableOf (now (work .entry))) (s .u) (s .a) i m j ⌝ }
 {
     let cell = Table::TASKS_CELL + k * Task::CELLS;
     if work[cell + Task::PRIORITY_CELL] < s.priority {
@@ -156,7 +157,7 @@ fn weight(work: &[u32; Work::CELLS], s: Subject, i: usize, m: usize, j: usize, k
     work[cell + (Task::TIMES_CELL + m)]
 }
 
-// The weights of transaction i in mode m, and its load.
+// The weights of transaction i in mode m, and their sum.
 fn put_weights(
     work: &mut [u32; Work::CELLS],
     s: Subject,
@@ -166,26 +167,26 @@ fn put_weights(
     count: usize,
 )
     requires { ⌜ Lent (now work) ⌝ }
-    requires { ⌜ Chosen (tableAt (now work)) s ⌝ }
-    requires { ⌜ TasksOf (tableAt (now work)) i first count ⌝ }
-    requires { ⌜ m < modes (tableAt (now work)) i ⌝ }
-    requires { ⌜ WeighedTo (tableAt (now work)) (s .u) (s .a) (modesMost * i + m) (now work) ⌝ }
+    requires { ⌜ Chosen (tableOf (now work)) s ⌝ }
+    requires { ⌜ TasksOf (tableOf (now work)) i first count ⌝ }
+    requires { ⌜ m < modes (tableOf (now work)) i ⌝ }
+    requires { ⌜ WeighedTo (tableOf (now work)) (s .u) (s .a) (modesMost * i + m) (now work) ⌝ }
     ensures { λ _. ⌜ SameTo weightsCell (now (work .entry)) (now (work .exit)) ⌝ }
-    ensures { λ _. ⌜ WeighedTo (tableAt (now (work .entry))) (s .u) (s .a) (modesMost * i + m) (now (work .exit)) ⌝ }
-    ensures { λ _. ⌜ Loaded (tableAt (now (work .entry))) (s .u) (s .a) i m (now (work .exit)) ⌝ }
+    ensures { λ _. ⌜ WeighedTo (tableOf (now (work .entry))) (s .u) (s .a) (modesMost * i + m) (now (work .exit)) ⌝ }
+    ensures { λ _. ⌜ ModeWeighed (tableOf (now (work .entry))) (s .u) (s .a) i m (now (work .exit)) ⌝ }
 {
-    let mut load: u32 = 0;
+    let mut mode_weight: u32 = 0;
     let mut j: usize = 0;
     while j < count {
         let weight = weight(&*work, s, i, m, j, first + j);
         work[Work::WEIGHTS + Table::TASKS * m + (first + j)] = weight;
-        load += weight;
+        mode_weight += weight;
         j += 1;
     }
-    work[Work::LOADS + Transaction::MODES * i + m] = load;
+    work[Work::MODE_WEIGHTS + Transaction::MODES * i + m] = mode_weight;
 }
 
-// What the jobs held back to candidate c's instant weigh, from the cells of the row.
+// What the jobs held back to candidate c's instant weigh, from the cells.
 fn held_back(
     work: &[u32; Work::CELLS],
     s: Subject,
@@ -196,11 +197,11 @@ fn held_back(
     c: usize,
 ) -> u64
     requires { ⌜ Lent (now work) ⌝ }
-    requires { ⌜ TasksOf (tableAt (now work)) i first count ⌝ }
-    requires { ⌜ m < modes (tableAt (now work)) i ⌝ }
-    requires { ⌜ Loaded (tableAt (now work)) (s .u) (s .a) i m (now work) ⌝ }
+    requires { ⌜ TasksOf (tableOf (now work)) i first count ⌝ }
+    requires { ⌜ m < modes (tableOf (now work)) i ⌝ }
+    requires { ⌜ ModeWeighed (tableOf (now work)) (s .u) (s .a) i m (now work) ⌝ }
     requires { ⌜ c < count ⌝ }
-    ensures { λ r. ⌜ r ≡ heldBack (tableAt (now (work .entry))) (s .u) (s .a) i m c ⌝ }
+    ensures { λ r. ⌜ r ≡ heldBack (tableOf (now (work .entry))) (s .u) (s .a) i m c ⌝ }
 {
     let mut held: u64 = 0;
     let mut j: usize = 0;
@@ -222,12 +223,12 @@ fn put_sums(
     count: usize,
 )
     requires { ⌜ Lent (now work) ⌝ }
-    requires { ⌜ TasksOf (tableAt (now work)) i first count ⌝ }
-    requires { ⌜ m < modes (tableAt (now work)) i ⌝ }
-    requires { ⌜ WeighedTo (tableAt (now work)) (s .u) (s .a) (modesMost * i + m) (now work) ⌝ }
-    requires { ⌜ Loaded (tableAt (now work)) (s .u) (s .a) i m (now work) ⌝ }
+    requires { ⌜ TasksOf (tableOf (now work)) i first count ⌝ }
+    requires { ⌜ m < modes (tableOf (now work)) i ⌝ }
+    requires { ⌜ WeighedTo (tableOf (now work)) (s .u) (s .a) (modesMost * i + m) (now work) ⌝ }
+    requires { ⌜ ModeWeighed (tableOf (now work)) (s .u) (s .a) i m (now work) ⌝ }
     ensures { λ _. ⌜ SameTo weightsCell (now (work .entry)) (now (work .exit)) ⌝ }
-    ensures { λ _. ⌜ WeighedTo (tableAt (now (work .entry))) (s .u) (s .a) (modesMost * i + (m + 1)) (now (work .exit)) ⌝ }
+    ensures { λ _. ⌜ WeighedTo (tableOf (now (work .entry))) (s .u) (s .a) (modesMost * i + (m + 1)) (now (work .exit)) ⌝ }
 {
     let mut c: usize = 0;
     while c < count {
@@ -241,11 +242,11 @@ fn put_sums(
 
 fn weigh_transaction(work: &mut [u32; Work::CELLS], s: Subject, i: usize)
     requires { ⌜ Lent (now work) ⌝ }
-    requires { ⌜ Chosen (tableAt (now work)) s ⌝ }
-    requires { ⌜ i < transactions (tableAt (now work)) ⌝ }
-    requires { ⌜ WeighedTo (tableAt (now work)) (s .u) (s .a) (modesMost * i) (now work) ⌝ }
+    requires { ⌜ Chosen (tableOf (now work)) s ⌝ }
+    requires { ⌜ i < transactions (tableOf (now work)) ⌝ }
+    requires { ⌜ WeighedTo (tableOf (now work)) (s .u) (s .a) (modesMost * i) (now work) ⌝ }
     ensures { λ _. ⌜ SameTo weightsCell (now (work .entry)) (now (work .exit)) ⌝ }
-    ensures { λ _. ⌜ WeighedTo (tableAt (now (work .entry))) (s .u) (s .a) (modesMost * (i + 1)) (now (work .exit)) ⌝ }
+    ensures { λ _. ⌜ WeighedTo (tableOf (now (work .entry))) (s .u) (s .a) (modesMost * (i + 1)) (now (work .exit)) ⌝ }
 {
     let first = reads::before(&*work, i);
     let count = reads::tasks(&*work, i);
@@ -258,12 +259,12 @@ fn weigh_transaction(work: &mut [u32; Work::CELLS], s: Subject, i: usize)
     }
 }
 
-// The weights of the task under analysis, in a working row of the table.
+// The weights of the task under analysis, in work cells of the table.
 pub(crate) fn weigh(work: &mut [u32; Work::CELLS], s: Subject)
     requires { ⌜ Lent (now work) ⌝ }
-    requires { ⌜ Chosen (tableAt (now work)) s ⌝ }
+    requires { ⌜ Chosen (tableOf (now work)) s ⌝ }
     ensures { λ _. ⌜ Lent (now (work .exit)) ⌝ }
-    ensures { λ _. ⌜ tableAt (now (work .exit)) ≡ tableAt (now (work .entry)) ⌝ }
+    ensures { λ _. ⌜ tableOf (now (work .exit)) ≡ tableOf (now (work .entry)) ⌝ }
     ensures { λ _. ⌜ Weighs (now (work .exit)) s ⌝ }
 {
     let count = reads::transactions(&*work);

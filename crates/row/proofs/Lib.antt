@@ -1,4 +1,5 @@
 pub mod Held
 pub mod Rows
 pub mod Fields
+pub mod Longer
 pub mod Cases

@@ -9,16 +9,16 @@ use borrow.Author.Needs.{needs}
 use Rattle.table.specs.Limits.{tasksInAll}
 use Rattle.table.specs.Number.{inAll}
 use Rattle.row.specs.Row.{tableOf}
-use Rattle.answers.specs.Work.{Lent, tableAt}
+use Rattle.answers.specs.Work.{Lent}
 use Rattle.answers.specs.Told.{cellsOfTask, FillsFrom}
-use Rattle.answers.proofs.Filling.{count-is}
+use Rattle.row.proofs.Fields.{in-all-cell}
 use Rattle.answers.proofs.Told.{WrittenTo, written-none, written-next, written-all}
 use Rattle.answers.proofs.fill.Statement.{statement}
 use Rattle.answers.proofs.fill.Tie as tie
 
 abbrev Inv-loop : tie.InvT-loop
 Inv-loop table budget row₀ count working₀ k₀ row working k =
-    (k ≤ count) × (WrittenTo (tableOf table) budget row₀ row k × (Lent working × (tableAt working ≡ tableOf table)))
+    (k ≤ count) × (WrittenTo (tableOf table) budget row₀ row k × (Lent working × (tableOf working ≡ tableOf table)))
 
 abbrev μ-loop : tie.MeasureT-loop
 μ-loop table budget row₀ count working₀ k₀ row working k = count - k
@@ -31,11 +31,11 @@ index-requires c κs = search needs
 
 -- the count is that of all tasks, at most 64
 
-all : (c : tie.After-index Inv-loop μ-loop) → c .index .result ≡ inAll (tableOf (now (c .before .before .before .args .table)))
-all c = c .index .ensures ∙ c .before .in-all .ensures ∙ count-is (c .before .before .before .pre)
+all : (c : tie.After-index Inv-loop μ-loop) → c .index .result ≡ inAll (tableOf (now (c .before .before .before .before .args .table)))
+all c = c .index .ensures ∙ c .before .in-all .ensures ∙ in-all-cell (c .before .before .before .before .pre)
 
 few : (c : tie.After-index Inv-loop μ-loop) → c .index .result ≤ tasksInAll
-few c = omega (arith, all c, c .before .before .before .pre .kept .fewTasks)
+few c = omega (arith, all c, c .before .before .before .before .pre .kept .fewTasks)
 
 mul-if1 : tie.Need-mul-if1 Inv-loop μ-loop
 mul-if1 c = omega (arith, few c)
@@ -48,7 +48,7 @@ prepare-requires c κs = search needs
 
 loop-holds : tie.Need-loop-holds Inv-loop μ-loop
 loop-holds c =
-    let x = c .before .before .before .before .before .before .args in
+    let x = c .before .before .before .before .before .before .before .args in
     (zero-le, (written-none (tableOf (now (x .table))) (x .budget) (now (x .row)), c .prepare .ensures))
 
 task-cells-requires : tie.Need-task-cells-requires Inv-loop μ-loop
@@ -56,14 +56,14 @@ task-cells-requires c κs =
     let n = c .before .before in
     let l = n .before in
     let y = l .before .before .before .before in (
-      y .before .before .before .pre,
+      y .before .before .before .before .pre,
       (l .loop .inv .1 .1 .0, (l .loop .inv .1 .1 .1, omega (arith, n .loop-test .taken, all y))),
     )
 
 -- the next task's cells are inside the row
 room :
     (c : tie.In-loop Inv-loop μ-loop)
-    → cellsOfTask * c .before .loop .k + 2 < length (now (c .before .before .before .before .before .before .before .before .args .row))
+    → cellsOfTask * c .before .loop .k + 2 < length (now (c .before .before .before .before .before .before .before .before .before .args .row))
 room c = omega (arith, c .loop-test .taken, c .before .before .before .before .if1 .left)
 
 put-requires : tie.Need-put-requires Inv-loop μ-loop
@@ -87,7 +87,7 @@ loop-again c =
     let t = p .before in
     let n = t .before .before .before in
     let l = n .before in
-    let s = l .before .before .before .before .before .before .before in (
+    let s = l .before .before .before .before .before .before .before .before in (
       omega (arith, n .loop-test .taken),
       (
         rw (p .put .ensures)
@@ -108,7 +108,7 @@ returns-2 : tie.Need-returns-2 Inv-loop μ-loop
 returns-2 c =
     let l = c .before in
     let y = l .before .before .before .before in
-    let s = y .before .before .before in
+    let s = y .before .before .before .before in
     let tab = tableOf (now (s .args .table)) in
     let last : l .loop .k ≡ inAll tab = omega (arith, c .loop-test .left, l .loop .inv .0, all y) in
     rw (all y)

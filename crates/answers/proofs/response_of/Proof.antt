@@ -6,7 +6,7 @@ use borrow.Author.Needs.{needs}
 use Rattle.table.specs.Number.{inAll}
 use Rattle.row.specs.Row.{tableOf}
 use Rattle.answers.specs.Told.{RespondsFrom}
-use Rattle.answers.proofs.Filling.{count-is}
+use Rattle.row.proofs.Fields.{in-all-cell}
 use Rattle.answers.proofs.Told.{cells-respond}
 use Rattle.answers.proofs.response_of.Statement.{statement}
 use Rattle.answers.proofs.response_of.Tie as tie
@@ -18,8 +18,8 @@ index-requires : tie.Need-index-requires
 index-requires c κs = search needs
 
 -- the count is that of all tasks
-all : (c : tie.After-index) → c .index .result ≡ inAll (tableOf (now (c .before .before .args .table)))
-all c = c .index .ensures ∙ c .before .in-all .ensures ∙ count-is (c .before .before .pre)
+all : (c : tie.After-index) → c .index .result ≡ inAll (tableOf (now (c .before .before .before .args .table)))
+all c = c .index .ensures ∙ c .before .in-all .ensures ∙ in-all-cell (c .before .before .before .pre)
 
 prepare-requires : tie.Need-prepare-requires
 prepare-requires c κs = search needs
@@ -29,7 +29,7 @@ task-cells-requires c κs =
     let p = c .before in
     let t = p .before .before in
     let y = t .before in
-    (y .before .before .pre, (p .prepare .ensures .0, (p .prepare .ensures .1, omega (arith, t .if1 .taken, all y))))
+    (y .before .before .before .pre, (p .prepare .ensures .0, (p .prepare .ensures .1, omega (arith, t .if1 .taken, all y))))
 
 pair-requires : tie.Need-pair-requires
 pair-requires c κs = search needs
@@ -37,7 +37,7 @@ pair-requires c κs = search needs
 returns : tie.Need-returns
 returns c =
     let t = c .before in
-    let x = t .before .before .before .before .before .before .before in
+    let x = t .before .before .before .before .before .before .before .before in
     subst (RespondsFrom (tableOf (now (x .args .table))) (x .args .task) (x .args .budget)) (sym (c .pair .ensures))
     (cells-respond (x .pre .kept) (t .task-cells .ensures .0))
 
@@ -47,7 +47,7 @@ pair-requires-2 c κs = search needs
 returns-2 : tie.Need-returns-2
 returns-2 c =
     let y = c .before .before in
-    let x = y .before .before in
+    let x = y .before .before .before in
     subst (RespondsFrom (tableOf (now (x .args .table))) (x .args .task) (x .args .budget)) (sym (c .pair2 .ensures))
     (RespondsFrom.unknown (omega (arith, c .before .if1 .left, all y)))
 

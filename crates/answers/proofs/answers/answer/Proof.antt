@@ -4,11 +4,11 @@ use mathlib.Core.Path.{_≡_, sym, _∙_}
 use native.Mathlib.Omega.{arith}
 use denote.Ref.{now}
 use borrow.Author.Needs.{needs}
+use Rattle.row.specs.Row.{tableOf}
 use Rattle.periods.specs.Charge.{imposed}
 use Rattle.analysis.specs.Walk.{answer}
 use Rattle.answers.specs.declared.answers.TaskAnswer.{TaskAnswer}
 use Rattle.answers.specs.declared.walk.Walked.{Walked}
-use Rattle.answers.specs.Work.{tableAt}
 use Rattle.answers.specs.Answered.{answered}
 use Rattle.answers.proofs.Answered.{answerFor, overload-answer, walk-answer, walk-bound-most}
 use Rattle.answers.proofs.answers.answer.Statement.{statement}
@@ -16,7 +16,7 @@ use Rattle.answers.proofs.answers.answer.Tie as tie
 
 -- the answer of the definitions
 abbrev wanted : tie.Start → TaskAnswer
-wanted x = answered (answer imposed (tableAt (now (x .args .row))) (x .args .s .u) (x .args .s .a) (x .args .budget))
+wanted x = answered (answer imposed (tableOf (now (x .args .row))) (x .args .s .u) (x .args .s .a) (x .args .budget))
 
 is-overload-requires : tie.Need-is-overload-requires
 is-overload-requires c κs = search needs
@@ -24,7 +24,7 @@ is-overload-requires c κs = search needs
 returns : tie.Need-returns
 returns c =
     let x = c .before .before .args in
-    sym (overload-answer (tableAt (now (x .row))) (x .s .u) (x .s .a) (x .budget) (sym (c .before .is-overload .ensures) ∙ c .if1 .taken))
+    sym (overload-answer (tableOf (now (x .row))) (x .s .u) (x .s .a) (x .budget) (sym (c .before .is-overload .ensures) ∙ c .if1 .taken))
 
 new-requires : tie.Need-new-requires
 new-requires c κs = search needs
@@ -42,7 +42,7 @@ by-walk :
     → wanted (c .before .before .before .before) ≡ answerFor (c .before .before .before .before .args .budget) w
 by-walk c w e =
     let x = c .before .before .before .before .args in
-    walk-answer (tableAt (now (x .row))) (x .s .u) (x .s .a) (x .budget)
+    walk-answer (tableOf (now (x .row))) (x .s .u) (x .s .a) (x .budget)
     (sym (c .before .before .before .is-overload .ensures) ∙ c .before .before .if1 .left)
     (c .before .new .ensures .0)
     (c .before .new .ensures .1)
@@ -53,7 +53,7 @@ cast-t10 c =
     let w = c .before .before .before .before in
     let x = w .before .before .before .before in
     let e = by-walk w _ (c .before .before .end .given .1) in
-    omega (arith, walk-bound-most (tableAt (now (x .args .row))) (x .args .s .u) (x .args .s .a) (x .args .budget) (x .pre .0 .holds .kept) (x .pre .1 .chosen .isTask) _ _ e)
+    omega (arith, walk-bound-most (tableOf (now (x .args .row))) (x .args .s .u) (x .args .s .a) (x .args .budget) (x .pre .0 .table .kept) (x .pre .1 .chosen .isTask) _ _ e)
 
 enum-known-used : tie.Need-enum-known-used
 enum-known-used c = search needs

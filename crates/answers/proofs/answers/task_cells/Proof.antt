@@ -5,6 +5,7 @@ use denote.Ref.{now}
 use borrow.Author.Needs.{needs}
 use Rattle.table.specs.Table.{Table, deadline}
 use Rattle.row.specs.Row.{tableOf}
+use Rattle.row.proofs.Fields.{read-deadline}
 use Rattle.periods.specs.Charge.{imposed}
 use Rattle.analysis.specs.Answer.{cells}
 use Rattle.analysis.specs.Walk.{answer}
@@ -41,7 +42,7 @@ cells-requires c κs = search needs
 
 returns : tie.Need-returns
 returns c =
-    let y = c .before .before in
+    let y = c .before .before .before in
     let l = y .before .before in
     let w = l .before .before in
     let t = w .before .before in
@@ -51,7 +52,7 @@ returns c =
     let table = l .link .ensures .1 .0 ∙ w .weigh .ensures .1 .0 ∙ t .before .pre .1 .1 .0 in
     let is : c .cells .result ≡ written (cells (deadline tab (s .u) (s .a)) (answer imposed tab (s .u) (s .a) budget)) =
     c .cells .ensures
-    ∙ ap₂ cellsFor (c .before .deadline .ensures)
+    ∙ ap₂ cellsFor (c .before .deadline .ensures ∙ rw (← (t .task .ensures .numbered)) (read-deadline (t .before .pre .0) (t .task .ensures .chosen .isTask)))
     (y .answer .ensures ∙ ap (λ (x : Table). answered (answer imposed x (s .u) (s .a) budget)) table)
     ∙ answered-cells _ _ in
     (record { s = s; isSubjectAt = t .task .ensures; is = is }, (l .link .ensures .0, table))

@@ -3,23 +3,22 @@
 use mathlib.Core.Path.{sym, _∙_}
 use Prim.Native.Nat.{_-_, _≤_}
 use native.Mathlib.Omega.{arith}
+use Rattle.row.specs.Row.{tableOf}
 use Rattle.table.specs.Limits.{horizon}
 use Rattle.analysis.specs.Bound.{busy}
 use Rattle.analysis.specs.Walk.{beyond?}
 use Rattle.analysis.proofs.Charges.{busy-some}
-use Rattle.answers.specs.Lent.{longest}
-use Rattle.answers.specs.Work.{tableAt}
 use Rattle.answers.proofs.Chain.{Left, left-all, left-came, left-over, left-on, left-none}
 use Rattle.answers.proofs.chains.busy_chain.Statement.{statement}
 use Rattle.answers.proofs.chains.busy_chain.Tie as tie
 
 abbrev Inv-loop : tie.InvT-loop
-Inv-loop row s x budget used horizon made₀ t₀ made t =
-    Left (busy (tableAt row) (s .u) (s .a) (x .mode) (x .candidate)) beyond? budget used 1 made t
-    × ((1 ≤ t) × (t ≤ longest))
+Inv-loop work s x budget used most made₀ t₀ made t =
+    Left (busy (tableOf work) (s .u) (s .a) (x .mode) (x .candidate)) beyond? budget used 1 made t
+    × ((1 ≤ t) × (t ≤ horizon))
 
 abbrev μ-loop : tie.MeasureT-loop
-μ-loop row s x budget used horizon made₀ t₀ made t = budget - made
+μ-loop work s x budget used most made₀ t₀ made t = budget - made
 
 horizon-requires : tie.Need-horizon-requires Inv-loop μ-loop
 horizon-requires c κs = tt
@@ -59,9 +58,9 @@ loop-again c =
     let (lent, (subject, (turn, within))) = c .before .before .before .before .before .before .before .pre in
     let inv = c .before .before .before .before .loop .inv in
     let value = c .before .before .busy .ensures in
-    let short : c .before .before .busy .result .0 ≤ longest = omega arith in (
+    let short : c .before .before .busy .result .0 ≤ horizon = omega arith in (
       rw value (left-on _ beyond? (inv .0) (c .before .before .before .loop-test .taken) (λ e. c .before .if1 .left (value ∙ e)) (λ o. omega arith)),
-      (rw value (busy-some (lent .holds .kept) (subject .chosen .isTask) (turn .setting) (inv .1 .0)), short),
+      (rw value (busy-some (lent .table .kept) (subject .chosen .isTask) (turn .setting) (inv .1 .0)), short),
     )
 
 returns-3 : tie.Need-returns-3 Inv-loop μ-loop

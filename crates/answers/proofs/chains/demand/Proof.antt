@@ -3,20 +3,20 @@ use mathlib.Core.Path.{ap₂, sym, _∙_}
 use Prim.Native.Nat.{ℕ, _+_}
 use native.Mathlib.Omega.{arith}
 use Rattle.analysis.proofs.Join.{demand-rivals}
-use Rattle.answers.proofs.Ranges.{rivals-lt}
-use Rattle.answers.proofs.Turns.{turn-first, turn-blocking, turn-time, turn-candidate, turn-start, start-le}
+use Rattle.charge.proofs.Ranges.{rivals-lt}
+use Rattle.answers.proofs.Instants.{instant-first, instant-blocking, instant-time, instant-candidate, instant-start, start-le}
 use Rattle.answers.proofs.chains.demand.Statement.{statement}
 use Rattle.answers.proofs.chains.demand.Tie as tie
 
 start-requires : tie.Need-start-requires
 start-requires c κs =
     let (lent, (subject, (turn, (near, short)))) = c .pre in
-    (turn-first (lent .holds .kept) (subject .chosen .isTask) turn, (near, (turn-blocking (lent .holds .kept) (subject .chosen .isTask) turn, turn-time (lent .holds .kept) (subject .chosen .isTask) turn)))
+    (instant-first (lent .table .kept) (subject .chosen .isTask) turn, (near, (instant-blocking (lent .table .kept) (subject .chosen .isTask) turn, instant-time (lent .table .kept) (subject .chosen .isTask) turn)))
 
 rivals-requires : tie.Need-rivals-requires
 rivals-requires c κs =
     let (lent, (subject, (turn, (near, short)))) = c .before .pre in
-    (lent, (subject, (turn-candidate (lent .holds .kept) (subject .chosen .isTask) turn, (turn .setting .mode, short))))
+    (lent, (subject, (instant-candidate (lent .table .kept) (subject .chosen .isTask) turn, (turn .setting .mode, short))))
 
 add-t9 : tie.Need-add-t9
 add-t9 c =
@@ -25,16 +25,16 @@ add-t9 c =
     omega (
       arith,
       c .before .before .before .start .ensures,
-      start-le (lent .holds .kept) (subject .chosen .isTask) turn (a .p .0) near,
+      start-le (lent .table .kept) (subject .chosen .isTask) turn (a .p .0) near,
       c .before .before .rivals .ensures,
-      rivals-lt (lent .holds .kept) (a .whole) short (a .s .u) (a .s .a) (subject .chosen .isTask .owner) (turn .setting .mode) (a .x .candidate),
+      rivals-lt (lent .table .kept) (a .whole) short (a .s .u) (a .s .a) (subject .chosen .isTask .owner) (turn .setting .mode) (a .x .candidate),
     )
 
 returns : tie.Need-returns
 returns c =
     let a = c .before .before .before .before .args in
     let (lent, (subject, (turn, (near, short)))) = c .before .before .before .before .pre in
-    ap₂ (λ (x y : ℕ). x + y) (c .before .before .before .start .ensures ∙ turn-start (lent .holds .kept) (subject .chosen .isTask) turn (a .p .0)) (c .before .before .rivals .ensures)
+    ap₂ (λ (x y : ℕ). x + y) (c .before .before .before .start .ensures ∙ instant-start (lent .table .kept) (subject .chosen .isTask) turn (a .p .0)) (c .before .before .rivals .ensures)
     ∙ sym (demand-rivals _ _ (a .s .u) (a .s .a) (a .x .mode) (a .x .candidate) (a .p .0) (a .t .0))
 
 pub demand-spec : {M : Type 1} → statement M

@@ -4,35 +4,35 @@ use mathlib.Core.Path.{sym, _∙_}
 use Prim.Native.Nat.{_-_, _≤_}
 use native.Mathlib.Nat.{le-trans}
 use native.Mathlib.Omega.{arith}
+use Rattle.row.specs.Row.{tableOf}
 use Rattle.periods.specs.Charge.{imposed}
 use Rattle.analysis.specs.Bound.{demand}
 use Rattle.analysis.specs.Needed.{start}
 use Rattle.analysis.specs.Walk.{never?}
 use Rattle.answers.specs.Turn.{Reaches}
-use Rattle.answers.specs.Work.{tableAt}
 use Rattle.answers.proofs.Chain.{Left, left-all, left-came, left-on, left-none}
-use Rattle.answers.proofs.Turns.{turn-first, turn-blocking, turn-time, turn-start, reaches-start, reaches-on}
+use Rattle.answers.proofs.Instants.{instant-first, instant-blocking, instant-time, instant-start, reaches-start, reaches-on}
 use Rattle.answers.proofs.chains.job_chain.Statement.{statement}
 use Rattle.answers.proofs.chains.job_chain.Tie as tie
 
 abbrev Inv-loop : tie.InvT-loop
-Inv-loop row s x p budget used made₀ t₀ made t =
-    Left (demand imposed (tableAt row) (s .u) (s .a) (x .mode) (x .candidate) (p .0)) never? budget used (start (tableAt row) (s .u) (s .a) (x .mode) (x .candidate) (p .0)) made t
-    × ((reaches : Reaches (tableAt row) (s .u) (s .a) (x .mode) (x .candidate) (p .0)) → t ≤ reaches .t)
+Inv-loop work s x p budget used made₀ t₀ made t =
+    Left (demand imposed (tableOf work) (s .u) (s .a) (x .mode) (x .candidate) (p .0)) never? budget used (start (tableOf work) (s .u) (s .a) (x .mode) (x .candidate) (p .0)) made t
+    × ((reaches : Reaches (tableOf work) (s .u) (s .a) (x .mode) (x .candidate) (p .0)) → t ≤ reaches .t)
 
 abbrev μ-loop : tie.MeasureT-loop
-μ-loop row s x p budget used made₀ t₀ made t = budget - made
+μ-loop work s x p budget used made₀ t₀ made t = budget - made
 
 start-requires : tie.Need-start-requires Inv-loop μ-loop
 start-requires c κs =
     let (lent, (subject, (turn, (near, (reaches, within))))) = c .pre in
-    (turn-first (lent .holds .kept) (subject .chosen .isTask) turn, (near, (turn-blocking (lent .holds .kept) (subject .chosen .isTask) turn, turn-time (lent .holds .kept) (subject .chosen .isTask) turn)))
+    (instant-first (lent .table .kept) (subject .chosen .isTask) turn, (near, (instant-blocking (lent .table .kept) (subject .chosen .isTask) turn, instant-time (lent .table .kept) (subject .chosen .isTask) turn)))
 
 loop-holds : tie.Need-loop-holds Inv-loop μ-loop
 loop-holds c =
     let (lent, (subject, (turn, (near, (reaches, within))))) = c .before .pre in
-    let e = c .start .ensures ∙ turn-start (lent .holds .kept) (subject .chosen .isTask) turn (c .before .args .p .0) in
-    rw e (left-all _ never? _ within, λ r. reaches-start (lent .holds .kept) (subject .chosen .isTask) r)
+    let e = c .start .ensures ∙ instant-start (lent .table .kept) (subject .chosen .isTask) turn (c .before .args .p .0) in
+    rw e (left-all _ never? _ within, λ r. reaches-start (lent .table .kept) (subject .chosen .isTask) r)
 
 demand-requires : tie.Need-demand-requires Inv-loop μ-loop
 demand-requires c κs =
@@ -56,7 +56,7 @@ loop-again c =
     let inv = c .before .before .before .loop .inv in
     let value = c .before .demand .ensures in (
       rw value (left-on _ never? (inv .0) (c .before .before .loop-test .taken) (λ e. c .if1 .left (value ∙ e)) (λ o. o)),
-      λ r. rw value (reaches-on (lent .holds .kept) (subject .chosen .isTask) r (c .before .before .before .loop .t) (inv .1 r)),
+      λ r. rw value (reaches-on (lent .table .kept) (subject .chosen .isTask) r (c .before .before .before .loop .t) (inv .1 r)),
     )
 
 returns-2 : tie.Need-returns-2 Inv-loop μ-loop

@@ -1,29 +1,33 @@
--- The loop keeps the greatest of what the rows before z charge: z is the next that is charged, and ends behind the rows of
+-- The loop keeps the greatest of what the settings before z charge: z is the next that is charged, and ends behind those of
 -- the transaction. Assumes nothing.
 use borrow.Author.Needs.{needs}
 use mathlib.Core.Path.{ap, _∙_}
 use Prim.Native.Nat.{_+_, _-_, _/_, _%_, _≤_}
 use native.Mathlib.Omega.{arith}
+use Rattle.row.specs.Row.{tableOf}
 use Rattle.table.specs.Limits.{modesMost, tasksInAll}
 use Rattle.analysis.specs.Charge.{greatest}
-use Rattle.answers.specs.Quantity.{laterOf}
-use Rattle.answers.specs.Work.{tableAt}
-use Rattle.answers.proofs.Rows.{RowAt, row-at, end-le, first-row, next-row, Along, along-first, along-next, along-last}
+use Rattle.charge.specs.Later.{laterOf}
+use Rattle.answers.specs.Split.{moment}
+use Rattle.charge.proofs.Along.{SettingAt, setting-at, end-le, Along, along-first, along-next, along-last}
+use Rattle.answers.proofs.Readings.{first-setting, next-setting}
 use Rattle.answers.proofs.charges.greatest.Statement.{statement}
 use Rattle.answers.proofs.charges.greatest.Tie as tie
 
 abbrev Inv-loop : tie.InvT-loop
-Inv-loop row s whole i x end best₀ z₀ best z = Along whole (tableAt row) (s .u) (s .a) i x best z
+Inv-loop work s whole i x end best₀ z₀ best z = Along whole (tableOf work) (s .u) (s .a) i (moment x) best z
 
 abbrev μ-loop : tie.MeasureT-loop
-μ-loop row s whole i x end best₀ z₀ best z = end - z
+μ-loop work s whole i x end best₀ z₀ best z = end - z
 
 split-of-requires : tie.Need-split-of-requires Inv-loop μ-loop
-split-of-requires c κs = (c .pre .0 .holds, c .pre .1 .1)
+split-of-requires c κs = (c .pre .0 .table, c .pre .1 .1)
 
--- the places read lie within the row
+-- the places read lie within the cells
 few : (c : tie.After-split-of Inv-loop μ-loop) → c .split-of .result .first + c .split-of .result .count ≤ tasksInAll
-few c = end-le (c .split-of .ensures .isSplit) (c .before .pre .0 .holds .kept)
+few c =
+    let split = c .split-of .ensures .isSplit in
+    omega (arith, split .first, split .count, end-le (split .owner) (c .before .pre .0 .table .kept))
 
 add-end : tie.Need-add-end Inv-loop μ-loop
 add-end c = omega (arith, few (c .before))
@@ -52,25 +56,34 @@ loop-holds c =
     let (lent, (subject, rest)) = d .before .pre in
     let split = d .split-of .ensures .isSplit in
     rw (c .index .ensures)
-    (along-first (lent .holds .kept) (d .before .args .whole) split (first-row subject (lent .holds .kept) split))
+    (along-first (lent .table .kept) (d .before .args .whole) (split .owner) (moment (d .split-of .result)) (first-setting subject (lent .table .kept) split))
 
--- the row that the loop is at
+-- the setting that the loop is at
 at : (c : tie.After-struct-known3 Inv-loop μ-loop) →
     let d = c .before .before .before .before .before .before .before in
     let z = c .before .before .loop .z in
-    RowAt (tableAt (d .before .args .row .now)) (d .before .args .i) z (z % modesMost) (z / modesMost - d .split-of .result .first)
+    SettingAt (tableOf (d .before .args .work .now)) (d .before .args .i) z (z % modesMost) (z / modesMost - d .split-of .result .first)
 at c =
     let d = c .before .before .before .before .before .before .before in
-    row-at (d .split-of .ensures .isSplit) (c .before .before .loop .inv .from) (omega arith)
+    let split = d .split-of .ensures .isSplit in
+    rw (split .first) (setting-at (split .owner) (c .before .before .loop .inv .from) (omega (arith, split .first, split .count)))
 
 sub-c : tie.Need-sub-c Inv-loop μ-loop
-sub-c c = omega (arith, c .before .before .loop .inv .from)
+sub-c c =
+    let d = c .before .before .before .before .before .before .before in
+    omega (arith, d .split-of .ensures .isSplit .first, c .before .before .loop .inv .from)
 
-row-charge-requires : tie.Need-row-charge-requires Inv-loop μ-loop
-row-charge-requires c κs =
+setting-charge-requires : tie.Need-setting-charge-requires Inv-loop μ-loop
+setting-charge-requires c κs =
     let d = c .before .before .before .before .before .before .before in
     let pre = d .before .pre in
-    (pre .0, (pre .1 .0, (at c .isTask, (c .before .before .loop .inv .charged _ _ (at c) .mode, d .split-of .ensures .isSplit))))
+    record {
+      lent = pre .0;
+      subject = pre .1 .0;
+      isTask = at c .isTask;
+      mode = c .before .before .loop .inv .charged _ _ (at c) .mode;
+      split = d .split-of .ensures .isSplit;
+    }
 
 add-index-2 : tie.Need-add-index-2 Inv-loop μ-loop
 add-index-2 c = omega (arith, few (c .before .before .before .before .before .before .before .before))
@@ -91,7 +104,7 @@ loop-less : tie.Need-loop-less Inv-loop μ-loop
 loop-less c =
     let b = c .before .before .before in
     let s = b .before .before .before .before .before .before .before .before in
-    let next = next-row (s .pre .1 .0) (at b) (b .before .before .loop .inv .charged _ _ (at b) .mode) in
+    let next = next-setting (s .pre .1 .0) (at b) (b .before .before .loop .inv .charged _ _ (at b) .mode) in
     omega (arith, c .index2 .ensures, next .from)
 
 loop-again : tie.Need-loop-again Inv-loop μ-loop
@@ -100,17 +113,17 @@ loop-again c =
     let d = b .before .before .before .before .before .before .before in
     let (lent, (subject, rest)) = d .before .pre in
     let along = b .before .before .loop .inv in
-    let next = next-row subject (at b) (along .charged _ _ (at b) .mode) in
-    rw (c .before .before .row-charge .ensures, c .index2 .ensures)
-    (along-next (lent .holds .kept) (d .before .args .whole) (d .split-of .ensures .isSplit) along (at b) next)
+    let next = next-setting subject (at b) (along .charged _ _ (at b) .mode) in
+    rw (c .before .before .setting-charge .ensures, c .index2 .ensures)
+    (along-next (lent .table .kept) (d .before .args .whole) (d .split-of .ensures .isSplit .owner) (moment (d .split-of .result)) along (at b) next)
 
 returns : tie.Need-returns Inv-loop μ-loop
 returns c =
     let d = c .before .before .before .before .before .before in
     let s = d .before in
     let split = d .split-of .ensures in
-    along-last (s .pre .0 .holds .kept) (s .args .whole) (split .isSplit) (c .before .loop .inv) (omega arith)
-    ∙ ap (greatest (laterOf (s .args .whole)) (tableAt (s .args .row .now)) (s .args .s .u) (s .args .s .a) (s .args .i)) (split .at)
+    along-last (s .pre .0 .table .kept) (s .args .whole) (split .isSplit .owner) (moment (d .split-of .result)) (c .before .loop .inv) (omega (arith, split .isSplit .first, split .isSplit .count))
+    ∙ ap (greatest (laterOf (s .args .whole)) (tableOf (s .args .work .now)) (s .args .s .u) (s .args .s .a) (s .args .i)) (split .at)
 
 pub greatest-spec : {M : Type 1} → statement M
 greatest-spec =
@@ -128,7 +141,7 @@ greatest-spec =
     index-requires
     loop-holds
     sub-c
-    row-charge-requires
+    setting-charge-requires
     add-index-2
     add-index-3
     mul-index-3

@@ -4,9 +4,10 @@ use mathlib.Core.Path.{_≡_, ap, _∙_}
 use Prim.Native.Nat.{ℕ, _+_, _*_}
 use native.Mathlib.Omega.{arith}
 use lib.ListN.{getD}
+use Rattle.row.specs.Row.{tableOf}
 use Rattle.table.specs.Limits.{tasksMost}
 use Rattle.table.specs.Number.{number}
-use Rattle.answers.specs.Work.{tableAt, phasesCell}
+use Rattle.answers.specs.Work.{phasesCell}
 use Rattle.answers.proofs.charges.phase_of.Statement.{statement}
 use Rattle.answers.proofs.charges.phase_of.Tie as tie
 
@@ -30,9 +31,9 @@ returns c =
     let s = c .before .before .before in
     let a = s .args in
     let (lent, (candidate, isTask)) = s .pre in
-    let at : phasesCell + c .before .before .place .result ≡ phasesCell + tasksMost * number (tableAt (a .row .now)) (a .i) (a .c) + a .j =
+    let at : phasesCell + c .before .before .place .result ≡ phasesCell + tasksMost * number (tableOf (a .work .now)) (a .i) (a .c) + a .j =
     omega (arith, c .before .before .place .ensures .0) in
-    c .wide .ensures ∙ ap (λ (n : ℕ). getD (a .row .now) n 0) at ∙ lent .phases (a .i) (a .c) (a .j) candidate isTask
+    c .wide .ensures ∙ ap (λ (n : ℕ). getD (a .work .now) n 0) at ∙ lent .phases (a .i) (a .c) (a .j) candidate isTask
 
 pub phase-of-spec : {M : Type 1} → statement M
 phase-of-spec =

@@ -4,7 +4,7 @@ use borrow.Author.Needs.{needs}
 use mathlib.Core.Path.{sym}
 use native.Mathlib.Omega.{arith}
 use Prim.Native.Nat.{_<_}
-use Rattle.answers.proofs.Split.{released-passed, released-waiting, imposed-first, imposed-passed, imposed-waiting}
+use Rattle.charge.proofs.Split.{released-passed, released-waiting, imposed-first, imposed-passed, imposed-waiting}
 use Rattle.answers.proofs.charges.rest_of.Statement.{statement}
 use Rattle.answers.proofs.charges.rest_of.Tie as tie
 

@@ -1,38 +1,78 @@
 -- t by the period: quotient and remainder give t back. Assumes nothing.
 use borrow.Author.Needs.{needs}
+use mathlib.Core.Path.{_≡_, sym, _∙_}
 use Prim.Native.Nat.{_<_}
 use native.Mathlib.Omega.{arith}
 use native.Mathlib.Nat.{mod-lt, div-add-mod'}
+use Rattle.table.specs.Limits.{transactionsMost}
+use Rattle.table.specs.Table.{period}
+use Rattle.row.specs.Row.{firstCell, tableOf}
+use Rattle.row.proofs.Held.{held-period, held-tasks}
+use Rattle.row.proofs.Fields.{head-there, read-first}
 use Rattle.analysis.proofs.Charges.{kept-period}
 use Rattle.answers.specs.Split.{moment}
-use Rattle.answers.proofs.Ranges.{period-lt}
 use Rattle.answers.proofs.charges.split_of.Statement.{statement}
 use Rattle.answers.proofs.charges.split_of.Tie as tie
 
-period-requires : tie.Need-period-requires
-period-requires c κs = search needs
+-- the cells read lie within the table's row
+few : (s : tie.Start) → s .args .i < transactionsMost
+few s = omega (arith, s .pre .1 .0, s .pre .0 .kept .fewTransactions)
 
-cast-period : tie.Need-cast-period
-cast-period c = omega (arith, c .period .ensures, period-lt (c .before .pre .0 .kept) (c .before .pre .1 .0))
+mul-cell : tie.Need-mul-cell
+mul-cell c = omega (arith, few c)
+
+add-cell : tie.Need-add-cell
+add-cell c = omega (arith, few c)
+
+add-period : tie.Need-add-period
+add-period c = omega (arith, few c)
+
+mul-period : tie.Need-mul-period
+mul-period c = omega (arith, few c)
+
+element-copy-out-period : tie.Need-element-copy-out-period
+element-copy-out-period c = omega (arith, few c)
 
 cast-at : tie.Need-cast-at
 cast-at c = search needs
 
-before-requires : tie.Need-before-requires
-before-requires c κs = search needs
+add-index : tie.Need-add-index
+add-index c = omega (arith, few (c .before .before))
 
-tasks-requires : tie.Need-tasks-requires
-tasks-requires c κs = search needs
+mul-index : tie.Need-mul-index
+mul-index c = omega (arith, few (c .before .before))
 
-rem-t9 : tie.Need-rem-t9
-rem-t9 c =
-    let s = c .before .before .before in
-    omega (arith, s .period .ensures, kept-period (s .before .pre .0 .kept) (s .before .pre .1 .0))
+element-copy-out-index : tie.Need-element-copy-out-index
+element-copy-out-index c = omega (arith, few (c .before .before))
+
+index-requires : tie.Need-index-requires
+index-requires c κs = search needs
+
+add-index-2 : tie.Need-add-index-2
+add-index-2 c = omega (arith, few (c .before .before .before .before))
+
+mul-index-2 : tie.Need-mul-index-2
+mul-index-2 c = omega (arith, few (c .before .before .before .before))
+
+element-copy-out-index-2 : tie.Need-element-copy-out-index-2
+element-copy-out-index-2 c = omega (arith, few (c .before .before .before .before))
+
+index-requires-2 : tie.Need-index-requires-2
+index-requires-2 c κs = search needs
+
+-- a period is not 0
+some : (s : tie.Start) → 0 < period (tableOf (s .args .work .now)) (s .args .i)
+some s = kept-period (s .pre .0 .kept) (s .pre .1 .0)
+
+rem-t21 : tie.Need-rem-t21
+rem-t21 c =
+    let s = c .before .before .before .before .before .before in
+    omega (arith, some s, held-period (s .args .work .now) (s .pre .1 .0))
 
 div-wide : tie.Need-div-wide
 div-wide c =
-    let s = c .before .before .before in
-    omega (arith, s .period .ensures, kept-period (s .before .pre .0 .kept) (s .before .pre .1 .0))
+    let s = c .before .before .before .before .before .before in
+    omega (arith, some s, held-period (s .args .work .now) (s .pre .1 .0))
 
 wide-requires : tie.Need-wide-requires
 wide-requires c κs = search needs
@@ -40,34 +80,43 @@ wide-requires c κs = search needs
 returns : tie.Need-returns
 unfolding moment
 returns c =
-    let s = c .before .before .before .before in
-    let pre = s .before .pre in
-    let T = s .period .result in
-    let t = s .before .args .t .0 in
-    let some : 0 < T = omega (arith, s .period .ensures, kept-period (pre .0 .kept) (pre .1 .0)) in
+    let s = c .before .before .before .before .before .before .before in
+    let work = s .args .work .now in
+    let (table, (owner, short)) = s .pre in
+    let t = s .args .t .0 in
+    let is = held-period work owner in
     record {
       isSplit =
           record {
-            owner = pre .1 .0;
-            first = c .before .before .before2 .ensures;
-            count = c .before .tasks .ensures;
-            period = s .period .ensures;
-            below = mod-lt t some;
-            within = rw (c .wide .ensures, div-add-mod' t T) (pre .1 .1);
+            owner = owner;
+            first = c .before .before .before .index .ensures ∙ sym (head-there table owner firstCell) ∙ read-first table owner;
+            count = c .before .index2 .ensures ∙ sym (held-tasks work owner);
+            period = sym is;
+            below = rw (← is) (mod-lt t (some s));
+            within = rw (c .wide .ensures, ← is, div-add-mod' t (period (tableOf work) (s .args .i))) short;
           };
-      at = rw (c .wide .ensures) (div-add-mod' t T);
+      at = rw (c .wide .ensures, ← is) (div-add-mod' t (period (tableOf work) (s .args .i)));
     }
 
 pub split-of-spec : {M : Type 1} → statement M
 split-of-spec =
     tie.close
     (tie.spec
-    period-requires
-    cast-period
+    mul-cell
+    add-cell
+    add-period
+    mul-period
+    element-copy-out-period
     cast-at
-    before-requires
-    tasks-requires
-    rem-t9
+    add-index
+    mul-index
+    element-copy-out-index
+    index-requires
+    add-index-2
+    mul-index-2
+    element-copy-out-index-2
+    index-requires-2
+    rem-t21
     div-wide
     wide-requires
     returns)

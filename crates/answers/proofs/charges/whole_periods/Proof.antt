@@ -2,7 +2,7 @@
 use borrow.Author.Needs.{needs}
 use mathlib.Core.Path.{refl}
 use native.Mathlib.Omega.{arith}
-use Rattle.answers.specs.Split.{wholePeriods}
+use Rattle.charge.specs.Split.{wholePeriods}
 use Rattle.answers.proofs.charges.whole_periods.Statement.{statement}
 use Rattle.answers.proofs.charges.whole_periods.Tie as tie
 

@@ -2,21 +2,21 @@
 use Prim.Native.Nat.{ℕ, _-_, _≤_, _<_}
 use native.Mathlib.Omega.{arith}
 use borrow.Author.Count.{below-more}
-use Rattle.answers.specs.Work.{tableAt}
-use Rattle.answers.specs.Weight.{weight}
+use Rattle.row.specs.Row.{tableOf}
+use Rattle.charge.specs.Weight.{weight}
 use Rattle.answers.proofs.Flags.{never}
 use Rattle.answers.proofs.links.is_below.Statement.{statement}
 use Rattle.answers.proofs.links.is_below.Tie as tie
 
 abbrev Inv-loop : tie.InvT-loop
-Inv-loop row s i m n count j₀ j =
-    (j ≤ count) × ((k : ℕ) → k < j → weight (tableAt row) (s .u) (s .a) i m k ≤ weight (tableAt row) (s .u) (s .a) i n k)
+Inv-loop work s i m n count j₀ j =
+    (j ≤ count) × ((k : ℕ) → k < j → weight (tableOf work) (s .u) (s .a) i m k ≤ weight (tableOf work) (s .u) (s .a) i n k)
 
 abbrev μ-loop : tie.MeasureT-loop
-μ-loop row s i m n count j₀ j = count - j
+μ-loop work s i m n count j₀ j = count - j
 
 tasks-requires : tie.Need-tasks-requires Inv-loop μ-loop
-tasks-requires c κs = (c .pre .0 .holds, c .pre .1 .1 .0)
+tasks-requires c κs = (c .pre .0 .table, c .pre .1 .1 .0)
 
 loop-holds : tie.Need-loop-holds Inv-loop μ-loop
 loop-holds c = (omega arith, λ k l. absurd (omega arith))

@@ -1,7 +1,7 @@
--- A row is spare where its task weighs nothing, or its mode is dropped. Assumes nothing.
+-- A work is spare where its task weighs nothing, or its mode is dropped. Assumes nothing.
 use borrow.Author.Needs.{needs}
 use mathlib.Core.Path.{sym, _∙_}
-use Rattle.answers.specs.Links.{none, dropped}
+use Rattle.charge.specs.Links.{none, dropped}
 use Rattle.answers.proofs.Flags.{never}
 use Rattle.answers.proofs.links.is_charged.Statement.{statement}
 use Rattle.answers.proofs.links.is_charged.Tie as tie

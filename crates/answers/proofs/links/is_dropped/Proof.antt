@@ -2,21 +2,21 @@
 use Prim.Native.Nat.{_-_, _<_}
 use native.Mathlib.Omega.{arith}
 use Rattle.answers.proofs.Flags.{never}
-use Rattle.answers.proofs.Ranges.{modes-few}
+use Rattle.charge.proofs.Ranges.{modes-few}
 use Rattle.answers.proofs.links.is_dropped.Statement.{statement}
 use Rattle.answers.proofs.links.is_dropped.Tie as tie
 
 abbrev Inv-loop : tie.InvT-loop
-Inv-loop row s i m count n₀ n = m < n
+Inv-loop work s i m count n₀ n = m < n
 
 abbrev μ-loop : tie.MeasureT-loop
-μ-loop row s i m count n₀ n = count - n
+μ-loop work s i m count n₀ n = count - n
 
 modes-requires : tie.Need-modes-requires Inv-loop μ-loop
-modes-requires c κs = (c .pre .0 .holds, c .pre .1 .1 .0)
+modes-requires c κs = (c .pre .0 .table, c .pre .1 .1 .0)
 
 add-n : tie.Need-add-n Inv-loop μ-loop
-add-n c = omega (arith, modes-few (c .before .pre .0 .holds .kept) (c .before .pre .1 .1 .0))
+add-n c = omega (arith, modes-few (c .before .pre .0 .table .kept) (c .before .pre .1 .1 .0))
 
 loop-holds : tie.Need-loop-holds Inv-loop μ-loop
 loop-holds c = omega arith

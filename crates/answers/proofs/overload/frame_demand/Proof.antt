@@ -2,23 +2,23 @@
 use mathlib.Core.Path.{_≡_, refl}
 use Prim.Native.Nat.{_-_, _≤_}
 use native.Mathlib.Omega.{arith}
+use Rattle.row.specs.Row.{tableOf}
 use Rattle.table.specs.Sum.{sum as sumOf}
 use Rattle.analysis.specs.Overload.{frameDemand}
-use Rattle.answers.specs.Work.{tableAt}
-use Rattle.answers.proofs.Ranges.{sum-next}
-use Rattle.answers.proofs.Loads.{share, demand-room}
+use Rattle.charge.proofs.Ranges.{sum-next}
+use Rattle.charge.proofs.Loads.{share, demand-room}
 use Rattle.answers.proofs.overload.frame_demand.Statement.{statement}
 use Rattle.answers.proofs.overload.frame_demand.Tie as tie
 
 abbrev Inv-loop : tie.InvT-loop
-Inv-loop row s count sum₀ i₀ sum i =
-    (i ≤ count) × (sum ≡ sumOf i (share (tableAt row) (s .u) (s .a)))
+Inv-loop work s count sum₀ i₀ sum i =
+    (i ≤ count) × (sum ≡ sumOf i (share (tableOf work) (s .u) (s .a)))
 
 abbrev μ-loop : tie.MeasureT-loop
-μ-loop row s count sum₀ i₀ sum i = count - i
+μ-loop work s count sum₀ i₀ sum i = count - i
 
 transactions-requires : tie.Need-transactions-requires Inv-loop μ-loop
-transactions-requires c κs = c .pre .0 .holds
+transactions-requires c κs = tt
 
 loop-holds : tie.Need-loop-holds Inv-loop μ-loop
 unfolding sumOf
@@ -32,7 +32,7 @@ share-requires c κs =
 add-sum : tie.Need-add-sum Inv-loop μ-loop
 add-sum c =
     let s = c .before .before .before .before .args .s in
-    let room = demand-room (c .before .before .before .before .pre .0 .holds .kept) (s .u) (s .a) in
+    let room = demand-room (c .before .before .before .before .pre .0 .table .kept) (s .u) (s .a) in
     omega (arith, room (c .before .before .loop .i) (omega arith))
 
 add-i : tie.Need-add-i Inv-loop μ-loop

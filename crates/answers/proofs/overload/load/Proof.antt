@@ -2,23 +2,23 @@
 use mathlib.Core.Path.{_≡_, refl}
 use Prim.Native.Nat.{_-_, _≤_}
 use native.Mathlib.Omega.{arith}
+use Rattle.row.specs.Row.{tableOf}
 use Rattle.table.specs.Sum.{sum as sumOf}
 use Rattle.analysis.specs.Overload.{load}
-use Rattle.answers.specs.Work.{tableAt}
-use Rattle.answers.proofs.Ranges.{sum-next}
-use Rattle.answers.proofs.Loads.{urgentTime, load-room}
+use Rattle.charge.proofs.Ranges.{sum-next}
+use Rattle.charge.proofs.Loads.{urgentTime, load-room}
 use Rattle.answers.proofs.overload.load.Statement.{statement}
 use Rattle.answers.proofs.overload.load.Tie as tie
 
 abbrev Inv-loop : tie.InvT-loop
-Inv-loop row s i m count sum₀ j₀ sum j =
-    (j ≤ count) × (sum ≡ sumOf j (urgentTime (tableAt row) (s .u) (s .a) i m))
+Inv-loop work s i m count sum₀ j₀ sum j =
+    (j ≤ count) × (sum ≡ sumOf j (urgentTime (tableOf work) (s .u) (s .a) i m))
 
 abbrev μ-loop : tie.MeasureT-loop
-μ-loop row s i m count sum₀ j₀ sum j = count - j
+μ-loop work s i m count sum₀ j₀ sum j = count - j
 
 tasks-requires : tie.Need-tasks-requires Inv-loop μ-loop
-tasks-requires c κs = (c .pre .0 .holds, c .pre .1 .1 .0)
+tasks-requires c κs = (c .pre .0 .table, c .pre .1 .1 .0)
 
 loop-holds : tie.Need-loop-holds Inv-loop μ-loop
 unfolding sumOf
@@ -33,7 +33,7 @@ add-sum : tie.Need-add-sum Inv-loop μ-loop
 add-sum c =
     let s = c .before .before .before .before .args .s in
     let pre = c .before .before .before .before .pre in
-    let room = load-room (pre .0 .holds .kept) (s .u) (s .a) (pre .1 .1 .0) (pre .1 .1 .1) in
+    let room = load-room (pre .0 .table .kept) (s .u) (s .a) (pre .1 .1 .0) (pre .1 .1 .1) in
     omega (arith, room (c .before .before .loop .j) (omega arith))
 
 add-j : tie.Need-add-j Inv-loop μ-loop

@@ -3,23 +3,23 @@ use borrow.Author.Needs.{needs}
 use mathlib.Core.Path.{_≡_, refl}
 use Prim.Native.Nat.{_-_, _≤_}
 use native.Mathlib.Omega.{arith}
+use Rattle.row.specs.Row.{tableOf}
 use Rattle.analysis.specs.Choice.{most}
 use Rattle.analysis.specs.Overload.{mostLoad}
-use Rattle.answers.specs.Work.{tableAt}
-use Rattle.answers.proofs.Ranges.{most-next}
-use Rattle.answers.proofs.Loads.{countedLoad}
+use Rattle.charge.proofs.Ranges.{most-next}
+use Rattle.charge.proofs.Loads.{countedLoad}
 use Rattle.answers.proofs.overload.most_load.Statement.{statement}
 use Rattle.answers.proofs.overload.most_load.Tie as tie
 
 abbrev Inv-loop : tie.InvT-loop
-Inv-loop row s i count best₀ m₀ best m =
-    (m ≤ count) × (best ≡ most m (countedLoad (tableAt row) (s .u) (s .a) i))
+Inv-loop work s i count best₀ m₀ best m =
+    (m ≤ count) × (best ≡ most m (countedLoad (tableOf work) (s .u) (s .a) i))
 
 abbrev μ-loop : tie.MeasureT-loop
-μ-loop row s i count best₀ m₀ best m = count - m
+μ-loop work s i count best₀ m₀ best m = count - m
 
 modes-requires : tie.Need-modes-requires Inv-loop μ-loop
-modes-requires c κs = (c .pre .0 .holds, c .pre .1 .1)
+modes-requires c κs = (c .pre .0 .table, c .pre .1 .1)
 
 loop-holds : tie.Need-loop-holds Inv-loop μ-loop
 unfolding most

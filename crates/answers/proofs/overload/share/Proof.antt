@@ -2,7 +2,7 @@
 use borrow.Author.Needs.{needs}
 use native.Mathlib.Omega.{arith}
 use Rattle.analysis.proofs.Charges.{kept-period}
-use Rattle.answers.proofs.Loads.{share-le}
+use Rattle.charge.proofs.Loads.{share-le}
 use Rattle.answers.proofs.overload.share.Statement.{statement}
 use Rattle.answers.proofs.overload.share.Tie as tie
 
@@ -15,7 +15,7 @@ period-requires c κs = search needs
 div-result : tie.Need-div-result
 div-result c =
     let pre = c .before .before .pre in
-    omega (arith, kept-period (pre .0 .holds .kept) (pre .1 .1))
+    omega (arith, kept-period (pre .0 .table .kept) (pre .1 .1))
 
 most-load-requires : tie.Need-most-load-requires
 most-load-requires c κs = search needs
@@ -27,7 +27,7 @@ mul-result : tie.Need-mul-result
 mul-result c =
     let a = c .before .before .before .args in
     let pre = c .before .before .before .pre in
-    omega (arith, returns c, share-le (pre .0 .holds .kept) (a .s .u) (a .s .a) (a .i) (pre .1 .1))
+    omega (arith, returns c, share-le (pre .0 .table .kept) (a .s .u) (a .s .a) (a .i) (pre .1 .1))
 
 pub share-spec : {M : Type 1} → statement M
 share-spec =

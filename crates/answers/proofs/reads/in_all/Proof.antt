@@ -1,18 +1,18 @@
--- The count of all tasks stands in the last cell of the header. Assumes nothing.
+-- The tasks that the row says there are in all. Assumes nothing.
 use borrow.Author.Needs.{needs}
-use mathlib.Core.Path.{sym, _∙_}
-use Rattle.answers.proofs.Fields.{in-all-cell}
+use mathlib.Core.Path.{_∙_}
+use Rattle.row.proofs.Fields.{in-all-cell}
 use Rattle.answers.proofs.reads.in_all.Statement.{statement}
 use Rattle.answers.proofs.reads.in_all.Tie as tie
 
-element-copy-out-index : tie.Need-element-copy-out-index
-element-copy-out-index c = search needs
+in-all-requires : tie.Need-in-all-requires
+in-all-requires c κs = search needs
 
 index-requires : tie.Need-index-requires
 index-requires c κs = search needs
 
 returns : tie.Need-returns
-returns c = c .index .ensures ∙ sym (in-all-cell (c .before .before .pre))
+returns c = c .index .ensures ∙ c .before .in-all .ensures ∙ in-all-cell (c .before .before .before .pre)
 
 pub in-all-spec : {M : Type 1} → statement M
-in-all-spec = tie.close (tie.spec element-copy-out-index index-requires returns)
+in-all-spec = tie.close (tie.spec in-all-requires index-requires returns)

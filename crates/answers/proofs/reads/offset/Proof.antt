@@ -1,30 +1,23 @@
--- The offset of a task stands in the first of its cells. Assumes nothing.
+-- What the row's reader gives by the number of a task that there is, is its field. Assumes nothing.
 use borrow.Author.Needs.{needs}
-use Rattle.answers.proofs.Fields.{offset-cell}
+use mathlib.Core.Path.{_∙_}
+use Rattle.row.proofs.Fields.{read-offset}
 use Rattle.answers.proofs.reads.offset.Statement.{statement}
 use Rattle.answers.proofs.reads.offset.Tie as tie
 
-task-cell-requires : tie.Need-task-cell-requires
-task-cell-requires c κs = search needs
+number-requires : tie.Need-number-requires
+number-requires c κs = search needs
 
-add-wide : tie.Need-add-wide
-add-wide c = search needs
-
-mul-wide : tie.Need-mul-wide
-mul-wide c = search needs
-
-element-copy-out-wide : tie.Need-element-copy-out-wide
-element-copy-out-wide c = search needs
+offset-requires : tie.Need-offset-requires
+offset-requires c κs = search needs
 
 wide-requires : tie.Need-wide-requires
 wide-requires c κs = search needs
 
 returns : tie.Need-returns
 returns c =
-    let pre = c .before .before .before .pre in
-    cc (offset-cell (pre .0) (pre .1))
+    let n = c .before .before in
+    c .wide .ensures ∙ c .before .offset .ensures ∙ rw (n .number .ensures) (read-offset (n .before .before .before .pre .0) (n .before .before .before .pre .1))
 
 pub offset-spec : {M : Type 1} → statement M
-offset-spec =
-    tie.close
-    (tie.spec task-cell-requires add-wide mul-wide element-copy-out-wide wide-requires returns)
+offset-spec = tie.close (tie.spec number-requires offset-requires wide-requires returns)

@@ -1,26 +1,20 @@
--- The priority of a task stands in the fifth of its cells. Assumes nothing.
+-- What the row's reader gives by the number of a task that there is, is its field. Assumes nothing.
 use borrow.Author.Needs.{needs}
-use Rattle.answers.proofs.Fields.{priority-cell}
+use mathlib.Core.Path.{_∙_}
+use Rattle.row.proofs.Fields.{read-priority}
 use Rattle.answers.proofs.reads.priority.Statement.{statement}
 use Rattle.answers.proofs.reads.priority.Tie as tie
 
-task-cell-requires : tie.Need-task-cell-requires
-task-cell-requires c κs = search needs
+number-requires : tie.Need-number-requires
+number-requires c κs = search needs
 
-add-result : tie.Need-add-result
-add-result c = search needs
-
-mul-result : tie.Need-mul-result
-mul-result c = search needs
-
-element-copy-out-result : tie.Need-element-copy-out-result
-element-copy-out-result c = search needs
+priority-requires : tie.Need-priority-requires
+priority-requires c κs = search needs
 
 returns : tie.Need-returns
 returns c =
-    let pre = c .before .before .pre in
-    cc (priority-cell (pre .0) (pre .1))
+    let n = c .before in
+    c .priority .ensures ∙ rw (n .number .ensures) (read-priority (n .before .before .before .pre .0) (n .before .before .before .pre .1))
 
 pub priority-spec : {M : Type 1} → statement M
-priority-spec =
-    tie.close (tie.spec task-cell-requires add-result mul-result element-copy-out-result returns)
+priority-spec = tie.close (tie.spec number-requires priority-requires returns)

@@ -1,41 +1,20 @@
--- The task count of transaction i stands in the fourth of its cells. Assumes nothing.
+-- What the row's reader gives is the field of a transaction that there is. Assumes nothing.
 use borrow.Author.Needs.{needs}
-use mathlib.Core.Path.{sym, _∙_}
-use Rattle.answers.proofs.Fields.{tasks-cell}
+use mathlib.Core.Path.{_∙_}
+use Rattle.row.proofs.Fields.{read-tasks}
 use Rattle.answers.proofs.reads.tasks.Statement.{statement}
 use Rattle.answers.proofs.reads.tasks.Tie as tie
 
-mul-index : tie.Need-mul-index
-mul-index c = search needs
-
-add-index : tie.Need-add-index
-add-index c = search needs
-
-add-index-2 : tie.Need-add-index-2
-add-index-2 c = search needs
-
-mul-index-2 : tie.Need-mul-index-2
-mul-index-2 c = search needs
-
-element-copy-out-index : tie.Need-element-copy-out-index
-element-copy-out-index c = search needs
+tasks-requires : tie.Need-tasks-requires
+tasks-requires c κs = search needs
 
 index-requires : tie.Need-index-requires
 index-requires c κs = search needs
 
 returns : tie.Need-returns
 returns c =
-    let pre = c .before .before .pre in
-    c .index .ensures ∙ sym (tasks-cell (pre .0) (pre .1))
+    let pre = c .before .before .before .pre in
+    c .index .ensures ∙ c .before .tasks .ensures ∙ read-tasks (pre .0) (pre .1)
 
 pub tasks-spec : {M : Type 1} → statement M
-tasks-spec =
-    tie.close
-    (tie.spec
-    mul-index
-    add-index
-    add-index-2
-    mul-index-2
-    element-copy-out-index
-    index-requires
-    returns)
+tasks-spec = tie.close (tie.spec tasks-requires index-requires returns)

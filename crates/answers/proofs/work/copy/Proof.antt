@@ -6,16 +6,17 @@ use native.Mathlib.Omega.{arith}
 use lib.ListN.{length, take, length-set}
 use lib.Seq.{take-suc, take-suc-set}
 use denote.Ref.{now}
+use Rattle.row.specs.Row.{rowCells}
+use Rattle.answers.proofs.Filling.{row-long}
 use Rattle.answers.specs.Work.{workCells}
-use Rattle.answers.proofs.Filling.{table-size}
 use Rattle.answers.proofs.work.copy.Statement.{statement}
 use Rattle.answers.proofs.work.copy.Tie as tie
 
 abbrev Inv-loop : tie.InvT-loop
-Inv-loop table work₀ at₀ work at = (at ≤ 1028) × ((length work ≡ workCells) × (take at work ≡ take at table))
+Inv-loop table work₀ at₀ work at = (at ≤ rowCells) × ((length work ≡ workCells) × (take at work ≡ take at table))
 
 abbrev μ-loop : tie.MeasureT-loop
-μ-loop table work₀ at₀ work at = 1028 - at
+μ-loop table work₀ at₀ work at = rowCells - at
 
 loop-holds : tie.Need-loop-holds Inv-loop μ-loop
 loop-holds c = (omega arith, (c .pre .1, refl))
@@ -43,7 +44,7 @@ loop-again c =
     let x = c .before .before in
     let table = now (x .before .args .table) in
     let at = x .loop .at in
-    let long : at < length table = omega (arith, table-size (x .before .pre .0)) in (
+    let long : at < length table = omega (arith, row-long (x .before .pre .0)) in (
       omega arith,
       (
         simp length-set (x .loop .inv .1 .0),
@@ -54,7 +55,7 @@ loop-again c =
 returns : tie.Need-returns Inv-loop μ-loop
 returns c =
     let x = c .before in
-    let all : x .loop .at ≡ 1028 = omega arith in
+    let all : x .loop .at ≡ rowCells = omega arith in
     (x .loop .inv .1 .0, rw all at (x .loop .inv .1 .1))
 
 pub copy-spec : {M : Type 1} → statement M

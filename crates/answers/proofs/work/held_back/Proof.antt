@@ -5,7 +5,7 @@ use Prim.Native.Nat.{ℕ, _+_, _-_, _*_, _≤_, _<_}
 use native.Mathlib.Omega.{arith}
 use Rattle.table.specs.Sum.{sum}
 use Rattle.table.specs.Limits.{modesMost, tasksMost, tasksInAll}
-use Rattle.answers.proofs.Ranges.{sum-next, tasks-few}
+use Rattle.charge.proofs.Ranges.{sum-next, tasks-few}
 use Rattle.answers.proofs.Weighing.{small, heldWeight, held-weight-le, held-room, held-back-is}
 use Rattle.answers.proofs.work.held_back.Statement.{statement}
 use Rattle.answers.proofs.work.held_back.Tie as tie
@@ -23,7 +23,7 @@ few :
     × ((d .before .before .args .first + d .before .before .args .c < tasksInAll) × (d .before .loop .j < tasksMost))
 few d =
     let (lent, (own, (mode, (loaded, here)))) = d .before .before .pre in
-    let kept = lent .holds .kept in
+    let kept = lent .table .kept in
     let inside = small kept own mode here in
     (small kept own mode (d .loop-test .taken), (inside .0, omega (arith, d .loop-test .taken, own .count, tasks-few kept (own .owner))))
 

@@ -1,12 +1,19 @@
 -- The jobs held back: whole periods in jitter and phase together.
 use borrow.Author.Needs.{needs}
+use mathlib.Core.Path.{_≡_, refl, _∙_}
 use native.Mathlib.Omega.{arith}
+use Rattle.table.specs.Table.{period, jitter}
+use Rattle.row.specs.Row.{tableOf}
+use Rattle.row.proofs.Fields.{read-period, read-jitter}
 use Rattle.periods.specs.Phase.{held}
 use Rattle.analysis.specs.Charge.{heldOf}
 use Rattle.analysis.proofs.Charges.{kept-period}
-use Rattle.answers.proofs.Ranges.{jitter-lt, phase-of-lt}
+use Rattle.charge.proofs.Ranges.{jitter-lt, phase-of-lt}
 use Rattle.answers.proofs.work.held_of.Statement.{statement}
 use Rattle.answers.proofs.work.held_of.Tie as tie
+
+number-requires : tie.Need-number-requires
+number-requires c κs = search needs
 
 jitter-requires : tie.Need-jitter-requires
 jitter-requires c κs = search needs
@@ -14,24 +21,43 @@ jitter-requires c κs = search needs
 phase-of-requires : tie.Need-phase-of-requires
 phase-of-requires c κs = search needs
 
+-- what was read
+waits : (c : tie.After-jitter) → let s = c .before .before .before .before in c .jitter .result ≡ jitter (tableOf (s .args .table .now)) (s .args .i) (s .args .j)
+waits c =
+    let (table, (candidate, isTask)) = c .before .before .before .before .pre in
+    c .jitter .ensures ∙ rw (c .before .number .ensures) (read-jitter table isTask)
+
+every : (c : tie.After-period) → let s = c .before .before .before .before .before .before .before in c .period .result ≡ period (tableOf (s .args .table .now)) (s .args .i)
+every c =
+    let (table, (candidate, isTask)) = c .before .before .before .before .before .before .before .pre in
+    c .period .ensures ∙ read-period table (isTask .owner)
+
 add-result : tie.Need-add-result
 add-result c =
-    let pre = c .before .before .pre in
-    omega (arith, jitter-lt (pre .0 .kept) (pre .1 .1), phase-of-lt (pre .0 .kept) (pre .1 .1) (c .before .before .args .c))
+    let s = c .before .before .before .before .before in
+    let (table, (candidate, isTask)) = s .pre in
+    omega (arith, waits (c .before), c .phase-of .ensures, jitter-lt (table .kept) isTask, phase-of-lt (table .kept) isTask (s .args .c))
 
 period-requires : tie.Need-period-requires
 period-requires c κs = search needs
 
 div-result : tie.Need-div-result
 div-result c =
-    let pre = c .before .before .before .pre in
-    omega (arith, kept-period (pre .0 .kept) (pre .1 .0 .owner))
+    let (table, (candidate, isTask)) = c .before .before .before .before .before .before .before .pre in
+    omega (arith, every c, kept-period (table .kept) (isTask .owner))
 
 returns : tie.Need-returns
 unfolding heldOf held
-returns c = cc
+returns c = rw (waits (c .before .before .before), c .before .before .phase-of .ensures, every c) refl
 
 pub held-of-spec : {M : Type 1} → statement M
 held-of-spec =
     tie.close
-    (tie.spec jitter-requires phase-of-requires add-result period-requires div-result returns)
+    (tie.spec
+    number-requires
+    jitter-requires
+    phase-of-requires
+    add-result
+    period-requires
+    div-result
+    returns)

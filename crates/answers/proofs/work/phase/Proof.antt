@@ -2,7 +2,7 @@
 use borrow.Author.Needs.{needs}
 use native.Mathlib.Nat.{mod-lt}
 use native.Mathlib.Omega.{arith}
-use Rattle.answers.proofs.Phases.{phase-ahead, phase-behind}
+use Rattle.charge.proofs.Phases.{phase-ahead, phase-behind}
 use Rattle.answers.proofs.work.phase.Statement.{statement}
 use Rattle.answers.proofs.work.phase.Tie as tie
 

@@ -3,17 +3,18 @@ use borrow.Author.Needs.{needs}
 use mathlib.Core.Path.{_≡_, ap, _∙_, subst}
 use Prim.Native.Nat.{ℕ, _+_, _-_, _≤_, _<_}
 use native.Mathlib.Omega.{arith}
+use Rattle.row.specs.Row.{tableOf}
 use Rattle.table.specs.Limits.{modesMost, tasksInAll}
 use Rattle.table.specs.Table.{Table}
-use Rattle.answers.specs.Work.{tableAt, Lent}
-use Rattle.answers.specs.Weight.{heldBack}
+use Rattle.answers.specs.Work.{Lent}
+use Rattle.charge.specs.Weight.{heldBack}
 use Rattle.answers.proofs.Filling.{same-less, lent-same}
-use Rattle.answers.proofs.Weighing.{small, loaded-same, SumsTo, sums-none, sums-next, sums-all}
+use Rattle.answers.proofs.Weighing.{small, mode-weighed-same, SumsTo, sums-none, sums-next, sums-all}
 use Rattle.answers.proofs.work.put_sums.Statement.{statement}
 use Rattle.answers.proofs.work.put_sums.Tie as tie
 
 abbrev Inv-loop : tie.InvT-loop
-Inv-loop work₀ s i m first count c₀ work c = (c ≤ count) × SumsTo (tableAt work₀) (s .u) (s .a) i m first c work₀ work
+Inv-loop work₀ s i m first count c₀ work c = (c ≤ count) × SumsTo (tableOf work₀) (s .u) (s .a) i m first c work₀ work
 
 abbrev μ-loop : tie.MeasureT-loop
 μ-loop work₀ s i m first count c₀ work c = count - c
@@ -22,16 +23,16 @@ abbrev μ-loop : tie.MeasureT-loop
 few : (d : tie.In-loop Inv-loop μ-loop) → (d .before .before .args .first + d .before .loop .c < tasksInAll) × (d .before .before .args .m < modesMost)
 few d =
     let (lent, (own, (mode, rest))) = d .before .before .pre in
-    small (lent .holds .kept) own mode (d .loop-test .taken)
+    small (lent .table .kept) own mode (d .loop-test .taken)
 
 -- the row of a turn
-present : (l : tie.At-loop Inv-loop μ-loop) → Lent (l .loop .work) × (tableAt (l .loop .work) ≡ tableAt (l .before .args .work .now))
+present : (l : tie.At-loop Inv-loop μ-loop) → Lent (l .loop .work) × (tableOf (l .loop .work) ≡ tableOf (l .before .args .work .now))
 present l = lent-same (l .before .pre .0) (l .loop .work) (same-less (omega arith) (l .loop .inv .1 .same))
 
 loop-holds : tie.Need-loop-holds Inv-loop μ-loop
 loop-holds c =
     let (lent, (own, (mode, (done, loaded)))) = c .pre in
-    (omega arith, sums-none (lent .holds .kept) (c .args .s .u) (c .args .s .a) own mode done)
+    (omega arith, sums-none (lent .table .kept) (c .args .s .u) (c .args .s .a) own mode done)
 
 held-back-requires : tie.Need-held-back-requires Inv-loop μ-loop
 held-back-requires c κs =
@@ -39,7 +40,7 @@ held-back-requires c κs =
     let x = l .before .args in
     let (lent, (own, (mode, (done, loaded)))) = l .before .pre in
     let (now, e) = present l in
-    (now, rw e (own, (mode, (loaded-same (lent .holds .kept) (x .s .u) (x .s .a) (own .owner) mode (l .loop .inv .1 .same) loaded, c .before .loop-test .taken))))
+    (now, rw e (own, (mode, (mode-weighed-same (lent .table .kept) (x .s .u) (x .s .a) (own .owner) mode (l .loop .inv .1 .same) loaded, c .before .loop-test .taken))))
 
 add-at : tie.Need-add-at Inv-loop μ-loop
 add-at c = omega (arith, few (c .before .before))
@@ -91,7 +92,7 @@ loop-again c =
     let to = l .loop .inv .1 in
     let is = c .held-back .ensures ∙ ap (λ (t : Table). heldBack t (x .s .u) (x .s .a) (x .i) (x .m) (l .loop .c)) (present l .1) in (
       omega (arith, c .before .before .loop-test .taken),
-      sums-next (lent .holds .kept) (x .s .u) (x .s .a) own mode (c .before .before .loop-test .taken) (to .same .size ∙ lent .holds .size) is to,
+      sums-next (lent .table .kept) (x .s .u) (x .s .a) own mode (c .before .before .loop-test .taken) (to .same .size ∙ lent .size) is to,
     )
 
 returns : tie.Need-returns Inv-loop μ-loop
@@ -102,8 +103,8 @@ returns c =
     let (most, to) = l .loop .inv in
     let all : l .loop .c ≡ x .count = omega (arith, c .loop-test .left) in (
       same-less (omega arith) (to .same),
-      sums-all (lent .holds .kept) (x .s .u) (x .s .a) own mode loaded
-          (subst (λ (n : ℕ). SumsTo (tableAt (x .work .now)) (x .s .u) (x .s .a) (x .i) (x .m) (x .first) n (x .work .now) (l .loop .work)) all to),
+      sums-all (lent .table .kept) (x .s .u) (x .s .a) own mode loaded
+          (subst (λ (n : ℕ). SumsTo (tableOf (x .work .now)) (x .s .u) (x .s .a) (x .i) (x .m) (x .first) n (x .work .now) (l .loop .work)) all to),
     )
 
 pub put-sums-spec : {M : Type 1} → statement M

@@ -1,22 +1,16 @@
 -- `task` takes a number apart: the transaction of the task is in the row, and its place there is what the number has beyond the
 -- tasks of the transactions before.
-use mathlib.Core.Path.{_∙_}
 use borrow.Author.Needs.{needs}
+use mathlib.Core.Path.{_≡_, sym, ap, _∙_}
+use Prim.Native.Nat.{ℕ}
+use Rattle.row.specs.Row.{priorityCell, bodyCell}
+use Rattle.row.proofs.Fields.{read-priority}
 use Rattle.answers.proofs.Filling.{found}
 use Rattle.answers.proofs.work.task.Statement.{statement}
 use Rattle.answers.proofs.work.task.Tie as tie
 
-mul-cell : tie.Need-mul-cell
-mul-cell c = search needs
-
-add-cell : tie.Need-add-cell
-add-cell c = search needs
-
-add-cell-2 : tie.Need-add-cell-2
-add-cell-2 c = search needs
-
-cell-requires : tie.Need-cell-requires
-cell-requires c κs = search needs
+owner-requires : tie.Need-owner-requires
+owner-requires c κs = search needs
 
 index-requires : tie.Need-index-requires
 index-requires c κs = search needs
@@ -29,9 +23,9 @@ index-requires-2 c κs = search needs
 
 sub-a : tie.Need-sub-a
 sub-a c =
-    let x = c .before .before in
-    found (x .before .before .pre .0) (x .before .before .pre .1) (x .index .ensures ∙ x .before .cell .ensures)
-    (c .index2 .ensures ∙ c .before .first .ensures)
+    let x = c .before .before .before in
+    let s = x .before .before .before in
+    found (s .pre .0) (s .pre .1) (x .index .ensures ∙ x .before .owner .ensures) (c .index2 .ensures ∙ c .before .first .ensures)
     .0
 
 priority-requires : tie.Need-priority-requires
@@ -39,21 +33,23 @@ priority-requires c κs = search needs
 
 returns : tie.Need-returns
 returns c =
-    let y = c .before in
-    let x = y .before .before in
-    let is =
-    found (x .before .before .pre .0) (x .before .before .pre .1) (x .index .ensures ∙ x .before .cell .ensures)
-    (y .index2 .ensures ∙ y .before .first .ensures) in
-    record { chosen = record { isTask = is .1 .0; priority = c .priority .ensures }; numbered = is .1 .1 }
+    let y = c .before .before in
+    let x = y .before .before .before in
+    let s = x .before .before .before in
+    let (is, numbered) =
+    found (s .pre .0) (s .pre .1) (x .index .ensures ∙ x .before .owner .ensures) (y .index2 .ensures ∙ y .before .first .ensures)
+    .1 in
+    let priority =
+    c .priority .ensures
+    ∙ ap (λ (n : ℕ). bodyCell (s .args .table .now) n priorityCell) (sym numbered)
+    ∙ read-priority (s .pre .0) is in
+    record { chosen = record { isTask = is; priority = priority }; numbered = numbered }
 
 pub task-spec : {M : Type 1} → statement M
 task-spec =
     tie.close
     (tie.spec
-    mul-cell
-    add-cell
-    add-cell-2
-    cell-requires
+    owner-requires
     index-requires
     first-requires
     index-requires-2

@@ -3,9 +3,10 @@
 use mathlib.Core.Path.{_≡_, subst}
 use Prim.Native.Nat.{ℕ, _+_, _-_, _*_, _≤_}
 use native.Mathlib.Omega.{arith}
+use Rattle.row.specs.Row.{tableOf}
 use Rattle.table.specs.Limits.{modesMost}
 use Rattle.table.specs.Table.{Table, transactions as transactionsIn}
-use Rattle.answers.specs.Work.{weightsCell, tableAt, Lent}
+use Rattle.answers.specs.Work.{weightsCell, Lent}
 use Rattle.answers.specs.Parts.{SameTo, WeighedTo}
 use Rattle.answers.proofs.Filling.{same-refl, same-trans, lent-same}
 use Rattle.answers.proofs.Weighing.{weighed-none, weighed-subject}
@@ -14,7 +15,7 @@ use Rattle.answers.proofs.work.weigh.Tie as tie
 
 abbrev Inv-loop : tie.InvT-loop
 Inv-loop work₀ s count i₀ work i =
-    (i ≤ count) × (SameTo weightsCell work₀ work × WeighedTo (tableAt work₀) (s .u) (s .a) (modesMost * i) work)
+    (i ≤ count) × (SameTo weightsCell work₀ work × WeighedTo (tableOf work₀) (s .u) (s .a) (modesMost * i) work)
 
 abbrev μ-loop : tie.MeasureT-loop
 μ-loop work₀ s count i₀ work i = count - i
@@ -22,16 +23,16 @@ abbrev μ-loop : tie.MeasureT-loop
 -- the row of a turn
 present :
     (l : tie.At-loop Inv-loop μ-loop)
-    → Lent (l .loop .work) × (tableAt (l .loop .work) ≡ tableAt (l .before .before .before .args .work .now))
+    → Lent (l .loop .work) × (tableOf (l .loop .work) ≡ tableOf (l .before .before .before .args .work .now))
 present l = lent-same (l .before .before .before .pre .0) (l .loop .work) (l .loop .inv .1 .0)
 
 transactions-requires : tie.Need-transactions-requires Inv-loop μ-loop
-transactions-requires c κs = c .before .pre .0 .holds
+transactions-requires c κs = tt
 
 loop-holds : tie.Need-loop-holds Inv-loop μ-loop
 loop-holds c =
     let x = c .before .before .args in
-    (omega arith, (same-refl weightsCell (x .work .now), weighed-none (tableAt (x .work .now)) (x .s .u) (x .s .a) (x .work .now)))
+    (omega arith, (same-refl weightsCell (x .work .now), weighed-none (tableOf (x .work .now)) (x .s .u) (x .s .a) (x .work .now)))
 
 weigh-transaction-requires : tie.Need-weigh-transaction-requires Inv-loop μ-loop
 weigh-transaction-requires c κs =
@@ -40,7 +41,7 @@ weigh-transaction-requires c κs =
     (now, rw e (l .before .before .before .pre .1, (omega (arith, c .before .loop-test .taken, l .before .transactions .ensures), l .loop .inv .1 .1)))
 
 add-i : tie.Need-add-i Inv-loop μ-loop
-add-i c = omega (arith, c .before .before .loop-test .taken, c .before .before .before .before .before .before .pre .0 .holds .kept .fewTransactions)
+add-i c = omega (arith, c .before .before .loop-test .taken, c .before .before .before .before .before .before .pre .0 .table .kept .fewTransactions)
 
 loop-less : tie.Need-loop-less Inv-loop μ-loop
 loop-less c = omega (arith, c .before .before .loop-test .taken)
@@ -62,14 +63,14 @@ returns c =
     let l = c .before in
     let y = l .before in
     let x = y .before .before .args in
-    let tab = tableAt (x .work .now) in
+    let tab = tableOf (x .work .now) in
     let (most, (same, done)) = l .loop .inv in
     let all : l .loop .i ≡ transactionsIn tab = omega (arith, c .loop-test .left, y .transactions .ensures) in
     let (now, e) = present l in (
       now,
       (
         e,
-        weighed-subject (l .loop .work) tab (x .s) e (y .before .before .pre .0 .holds .kept)
+        weighed-subject (l .loop .work) tab (x .s) e (y .before .before .pre .0 .table .kept)
             (subst (λ (i : ℕ). WeighedTo tab (x .s .u) (x .s .a) (modesMost * i) (l .loop .work)) all done),
       ),
     )

@@ -3,11 +3,12 @@ use mathlib.Core.Path.{_≡_, sym, _∙_, subst}
 use Prim.Native.Nat.{ℕ, _+_, _-_, _*_, _≤_}
 use native.Mathlib.Nat.{add-zero}
 use native.Mathlib.Omega.{arith}
+use Rattle.row.specs.Row.{tableOf}
 use Rattle.table.specs.Limits.{modesMost}
 use Rattle.table.specs.Table.{Table, modes as modesIn}
-use Rattle.answers.specs.Work.{weightsCell, tableAt, Lent}
+use Rattle.answers.specs.Work.{weightsCell, Lent}
 use Rattle.answers.specs.Parts.{SameTo, TasksOf, WeighedTo}
-use Rattle.answers.proofs.Ranges.{modes-few}
+use Rattle.charge.proofs.Ranges.{modes-few}
 use Rattle.answers.proofs.Filling.{same-refl, same-trans, lent-same}
 use Rattle.answers.proofs.Weighing.{weighed-next}
 use Rattle.answers.proofs.work.weigh_transaction.Statement.{statement}
@@ -15,28 +16,28 @@ use Rattle.answers.proofs.work.weigh_transaction.Tie as tie
 
 abbrev Inv-loop : tie.InvT-loop
 Inv-loop work₀ s i first count modes m₀ work m =
-    (m ≤ modes) × (SameTo weightsCell work₀ work × WeighedTo (tableAt work₀) (s .u) (s .a) (modesMost * i + m) work)
+    (m ≤ modes) × (SameTo weightsCell work₀ work × WeighedTo (tableOf work₀) (s .u) (s .a) (modesMost * i + m) work)
 
 abbrev μ-loop : tie.MeasureT-loop
 μ-loop work₀ s i first count modes m₀ work m = modes - m
 
 before-requires : tie.Need-before-requires Inv-loop μ-loop
-before-requires c κs = (c .before .pre .0 .holds, c .before .pre .1 .1 .0)
+before-requires c κs = (c .before .pre .0 .table, c .before .pre .1 .1 .0)
 
 tasks-requires : tie.Need-tasks-requires Inv-loop μ-loop
 tasks-requires c κs =
     let pre = c .before .before .before .pre in
-    (pre .0 .holds, pre .1 .1 .0)
+    (pre .0 .table, pre .1 .1 .0)
 
 modes-requires : tie.Need-modes-requires Inv-loop μ-loop
 modes-requires c κs =
     let pre = c .before .before .before .before .before .pre in
-    (pre .0 .holds, pre .1 .1 .0)
+    (pre .0 .table, pre .1 .1 .0)
 
 abbrev start : tie.After-modes Inv-loop μ-loop → tie.Start Inv-loop μ-loop
 start y = y .before .before .before .before .before .before
 
-own : (y : tie.After-modes Inv-loop μ-loop) → TasksOf (tableAt (start y .args .work .now)) (start y .args .i) (y .before .before .before .before .before2 .result) (y .before .before .tasks .result)
+own : (y : tie.After-modes Inv-loop μ-loop) → TasksOf (tableOf (start y .args .work .now)) (start y .args .i) (y .before .before .before .before .before2 .result) (y .before .before .tasks .result)
 own y =
     record {
       owner = start y .pre .1 .1 .0;
@@ -46,12 +47,12 @@ own y =
 
 -- the row of a turn, and after its weights
 
-present : (l : tie.At-loop Inv-loop μ-loop) → Lent (l .loop .work) × (tableAt (l .loop .work) ≡ tableAt (start (l .before) .args .work .now))
+present : (l : tie.At-loop Inv-loop μ-loop) → Lent (l .loop .work) × (tableOf (l .loop .work) ≡ tableOf (start (l .before) .args .work .now))
 present l = lent-same (start (l .before) .pre .0) (l .loop .work) (l .loop .inv .1 .0)
 
 weighed :
     (p : tie.After-put-weights Inv-loop μ-loop)
-    → Lent (p .put-weights .last .0) × (tableAt (p .put-weights .last .0) ≡ tableAt (p .before .before .before .loop .work))
+    → Lent (p .put-weights .last .0) × (tableOf (p .put-weights .last .0) ≡ tableOf (p .before .before .before .loop .work))
 weighed p = lent-same (present (p .before .before .before) .0) (p .put-weights .last .0) (p .put-weights .ensures .0)
 
 loop-holds : tie.Need-loop-holds Inv-loop μ-loop
@@ -61,7 +62,7 @@ loop-holds y =
       omega arith,
       (
         same-refl weightsCell (x .work .now),
-        subst (λ (k : ℕ). WeighedTo (tableAt (x .work .now)) (x .s .u) (x .s .a) k (x .work .now)) first (start y .pre .1 .1 .1),
+        subst (λ (k : ℕ). WeighedTo (tableOf (x .work .now)) (x .s .u) (x .s .a) k (x .work .now)) first (start y .pre .1 .1 .1),
       ),
     )
 
@@ -85,7 +86,7 @@ put-sums-requires c κs =
 add-m : tie.Need-add-m Inv-loop μ-loop
 add-m c =
     let n = c .before .before .before .before in
-    omega (arith, n .loop-test .taken, modes-few (start (n .before .before) .pre .0 .holds .kept) (start (n .before .before) .pre .1 .1 .0))
+    omega (arith, n .loop-test .taken, modes-few (start (n .before .before) .pre .0 .table .kept) (start (n .before .before) .pre .1 .1 .0))
 
 loop-less : tie.Need-loop-less Inv-loop μ-loop
 loop-less c = omega (arith, c .before .before .before .before .loop-test .taken)
@@ -109,10 +110,10 @@ returns c =
     let y = l .before in
     let x = start y .args in
     let (most, (same, done)) = l .loop .inv in
-    let all : l .loop .m ≡ modesIn (tableAt (x .work .now)) (x .i) = omega (arith, c .loop-test .left, y .modes .ensures) in (
+    let all : l .loop .m ≡ modesIn (tableOf (x .work .now)) (x .i) = omega (arith, c .loop-test .left, y .modes .ensures) in (
       same,
-      weighed-next (start y .pre .0 .holds .kept) (x .s .u) (x .s .a) (x .i)
-          (subst (λ (m : ℕ). WeighedTo (tableAt (x .work .now)) (x .s .u) (x .s .a) (modesMost * x .i + m) (l .loop .work)) all done),
+      weighed-next (start y .pre .0 .table .kept) (x .s .u) (x .s .a) (x .i)
+          (subst (λ (m : ℕ). WeighedTo (tableOf (x .work .now)) (x .s .u) (x .s .a) (modesMost * x .i + m) (l .loop .work)) all done),
     )
 
 pub weigh-transaction-spec : {M : Type 1} → statement M

@@ -8,11 +8,10 @@ use Rattle.table.specs.Limits.{modesMost, tasksInAll}
 use Rattle.table.specs.Number.{number}
 use Rattle.table.specs.Table.{priority}
 use Rattle.table.proofs.Number.{number-lt}
-use Rattle.row.specs.Row.{taskCell, priorityCell}
-use Rattle.answers.specs.Work.{tableAt}
-use Rattle.answers.proofs.Fields.{priority-cell, time-cell}
-use Rattle.answers.proofs.Ranges.{modes-few}
-use Rattle.answers.proofs.Weighing.{weight-none, weight-time}
+use Rattle.row.specs.Row.{taskCell, priorityCell, tableOf}
+use Rattle.row.proofs.Held.{held-priority, held-time}
+use Rattle.charge.proofs.Ranges.{modes-few}
+use Rattle.charge.proofs.Weights.{weight-none, weight-time}
 use Rattle.answers.proofs.work.weight.Statement.{statement}
 use Rattle.answers.proofs.work.weight.Tie as tie
 
@@ -20,13 +19,14 @@ use Rattle.answers.proofs.work.weight.Tie as tie
 few : (s : tie.Start) → (s .args .k < tasksInAll) × (s .args .m < modesMost)
 unfolding number
 few s =
-    let (holds, (chosen, (isTask, (mode, numbered)))) = s .pre in
-    (omega (arith, number-lt (tableAt (s .args .work .now)) isTask, holds .kept .fewTasks), omega (arith, modes-few (holds .kept) (isTask .owner)))
+    let (table, (chosen, (isTask, (mode, numbered)))) = s .pre in
+    (omega (arith, number-lt (tableOf (s .args .work .now)) isTask, table .kept .fewTasks), omega (arith, modes-few (table .kept) (isTask .owner)))
 
-urgency : (s : tie.Start) → getD (s .args .work .now) (taskCell (s .args .k) + priorityCell) 0 ≡ priority (tableAt (s .args .work .now)) (s .args .i) (s .args .j)
+urgency : (s : tie.Start) → getD (s .args .work .now) (taskCell (s .args .k) + priorityCell) 0 ≡ priority (tableOf (s .args .work .now)) (s .args .i) (s .args .j)
+unfolding number
 urgency s =
-    let (holds, (chosen, (isTask, (mode, numbered)))) = s .pre in
-    rw numbered (sym (priority-cell holds isTask))
+    let (table, (chosen, (isTask, (mode, numbered)))) = s .pre in
+    rw numbered (sym (held-priority (s .args .work .now) isTask))
 
 mul-cell : tie.Need-mul-cell
 mul-cell c = omega (arith, few c)
@@ -64,14 +64,15 @@ element-copy-out-result : tie.Need-element-copy-out-result
 element-copy-out-result c = omega (arith, few (c .before .before .before .before .before))
 
 returns-3 : tie.Need-returns-3
+unfolding number
 returns-3 c =
     let y = c .before .before .before in
     let s = y .before .before .before in
-    let (holds, (chosen, (isTask, (mode, numbered)))) = s .pre in
+    let (table, (chosen, (isTask, (mode, numbered)))) = s .pre in
     let x = s .args in
-    rw numbered (sym (time-cell holds isTask mode))
+    rw numbered (sym (held-time (x .work .now) isTask mode))
     ∙ sym
-    (weight-time (tableAt (x .work .now)) (x .s .u) (x .s .a) (x .i) (x .m) (x .j)
+    (weight-time (tableOf (x .work .now)) (x .s .u) (x .s .a) (x .i) (x .m) (x .j)
     (omega (arith, y .if1 .left, urgency s, chosen .priority))
     (λ b. ⊎-elim (λ w. w .2 .left (b .1)) (λ w. w .left (b .0)) (c .before .if2 .came)))
 

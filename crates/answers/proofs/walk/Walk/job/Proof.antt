@@ -6,6 +6,8 @@ use denote.Ref.{now}
 use Prim.Native.Nat.{_-_, _≤_, max}
 use native.Mathlib.Nat.{le-trans}
 use native.Mathlib.Omega.{arith}
+use Rattle.row.specs.Row.{tableOf}
+use Rattle.table.specs.Limits.{horizon}
 use Rattle.table.specs.Table.{Table}
 use Rattle.periods.specs.Charge.{imposed}
 use Rattle.analysis.specs.Choice.{count}
@@ -13,11 +15,9 @@ use Rattle.analysis.specs.Bound.{demand, response}
 use Rattle.analysis.specs.Needed.{job}
 use Rattle.analysis.specs.Walk.{walkJobs}
 use Rattle.answers.specs.Turn.{Near, Reaches, walked}
-use Rattle.answers.specs.Lent.{longest}
-use Rattle.answers.specs.Work.{tableAt}
 use Rattle.answers.specs.declared.walk.Walked.the-variants.{Through}
 use Rattle.answers.proofs.Chain.{Comes}
-use Rattle.answers.proofs.Turns.{turn-first, turn-period, turn-phase, turn-offset, turn-job, turn-response, jobs-few, job-near, lasts-reaches, reaches-comes}
+use Rattle.answers.proofs.Instants.{instant-first, instant-period, instant-phase, instant-offset, instant-job, instant-response, jobs-few, job-near, lasts-reaches, reaches-comes}
 use Rattle.answers.proofs.Walks.{afterStop, jobStop, job-walked}
 use Rattle.answers.proofs.walk.Walk.job.Statement.{statement}
 use Rattle.answers.proofs.walk.Walk.job.Tie as tie
@@ -25,26 +25,26 @@ use Rattle.answers.proofs.walk.Walk.job.Tie as tie
 job-requires : tie.Need-job-requires
 job-requires c κs =
     let (lent, (subject, (turn, (lasts, (l, within))))) = c .before .pre in
-    (turn-first (lent .holds .kept) (subject .chosen .isTask) turn, omega (arith, l, lasts .jobs, jobs-few (lent .holds .kept) (subject .chosen .isTask) (c .before .args .x .candidate) (lasts .within)))
+    (instant-first (lent .table .kept) (subject .chosen .isTask) turn, omega (arith, l, lasts .jobs, jobs-few (lent .table .kept) (subject .chosen .isTask) (c .before .args .x .candidate) (lasts .within)))
 
 abbrev tab : tie.Start → Table
-tab c = tableAt (now (c .args .row))
+tab c = tableOf (now (c .args .work))
 
 -- the job's number
 number : (c : tie.After-job) → let d = c .before .before in let a = d .args in c .job .result .0 ≡ job (tab d) (a .s .u) (a .s .a) (a .x .candidate) (a .n)
 number c =
     let (lent, (subject, (turn, (lasts, (l, within))))) = c .before .before .pre in
-    c .job .ensures ∙ turn-job (lent .holds .kept) (subject .chosen .isTask) turn (c .before .before .args .n)
+    c .job .ensures ∙ instant-job (lent .table .kept) (subject .chosen .isTask) turn (c .before .before .args .n)
 
 near : (c : tie.After-job) → Near (c .job .result .0)
 near c =
     let (lent, (subject, (turn, (lasts, (l, within))))) = c .before .before .pre in
-    rw (number c) (job-near (lent .holds .kept) (subject .chosen .isTask) (c .before .before .args .x .candidate) (lasts .within) (rw (lasts .jobs) at l))
+    rw (number c) (job-near (lent .table .kept) (subject .chosen .isTask) (c .before .before .args .x .candidate) (lasts .within) (rw (lasts .jobs) at l))
 
 reaches : (c : tie.After-job) → let d = c .before .before in let a = d .args in Reaches (tab d) (a .s .u) (a .s .a) (a .x .mode) (a .x .candidate) (c .job .result .0)
 reaches c =
     let (lent, (subject, (turn, (lasts, (l, within))))) = c .before .before .pre in
-    rw (number c) (lasts-reaches (lent .holds .kept) (subject .chosen .isTask) lasts l)
+    rw (number c) (lasts-reaches (lent .table .kept) (subject .chosen .isTask) lasts l)
 
 job-chain-requires : tie.Need-job-chain-requires
 job-chain-requires c κs =
@@ -63,7 +63,7 @@ step c =
     rw stop (job-walked imposed (tab d) (a .s .u) (a .s .a) (a .x .mode) (a .x .candidate) (a .budget) (a .n) (a .budget - a .self .used) (a .self .best))
 
 -- where t came back it is within the horizon
-short : (c : tie.After-w) → c .w .given .0 .0 .0 ≤ longest
+short : (c : tie.After-w) → c .w .given .0 .0 .0 ≤ horizon
 short c =
     let d = c .before .before .before in
     let s = d .before .before in
@@ -71,16 +71,16 @@ short c =
     let a = s .args in
     let r = reaches d in
     let stop = sym (c .before .before .job-chain .ensures) ∙ c .w .given .1 in
-    let back = subst (Comes (a .budget) (λ w. (w ≤ r .t) × (demand imposed (tab s) (a .s .u) (a .s .a) (a .x .mode) (a .x .candidate) (d .job .result .0) w ≡ w))) stop (reaches-comes (lent .holds .kept) (subject .chosen .isTask) r (a .budget) (a .budget - a .self .used)) in
+    let back = subst (Comes (a .budget) (λ w. (w ≤ r .t) × (demand imposed (tab s) (a .s .u) (a .s .a) (a .x .mode) (a .x .candidate) (d .job .result .0) w ≡ w))) stop (reaches-comes (lent .table .kept) (subject .chosen .isTask) r (a .budget) (a .budget - a .self .used)) in
     le-trans (back .0 .0) (r .within)
 
 response-requires : tie.Need-response-requires
 response-requires c κs =
     let d = c .before .before .before .before in
     let (lent, (subject, (turn, (lasts, (l, within))))) = d .before .before .pre in
-    let phase = turn-phase (lent .holds .kept) (subject .chosen .isTask) turn in
-    let period = turn-period (lent .holds .kept) (subject .chosen .isTask) turn in
-    (period, (omega arith, (turn-offset (lent .holds .kept) (subject .chosen .isTask) turn, (near d, short (c .before)))))
+    let phase = instant-phase (lent .table .kept) (subject .chosen .isTask) turn in
+    let period = instant-period (lent .table .kept) (subject .chosen .isTask) turn in
+    (period, (omega arith, (instant-offset (lent .table .kept) (subject .chosen .isTask) turn, (near d, short (c .before)))))
 
 greater-requires : tie.Need-greater-requires
 greater-requires c κs = search needs
@@ -96,7 +96,7 @@ answer : (c : tie.After-response) → let d = c .before .before .before .before 
 answer c =
     let d = c .before .before .before .before .before in
     let (lent, (subject, (turn, (lasts, (l, within))))) = d .before .before .pre in
-    rw (← (number d), ← (turn-response (lent .holds .kept) (subject .chosen .isTask) turn (d .job .result .0) (c .before .before .w .given .0 .0 .0))) (c .response .ensures)
+    rw (← (number d), ← (instant-response (lent .table .kept) (subject .chosen .isTask) turn (d .job .result .0) (c .before .before .w .given .0 .0 .0))) (c .response .ensures)
 
 returns : tie.Need-returns
 returns c =

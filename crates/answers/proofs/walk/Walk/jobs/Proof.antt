@@ -5,22 +5,22 @@ use mathlib.Core.Path.{_≡_, refl}
 use Prim.Native.Nat.{_-_}
 use native.Mathlib.Omega.{arith}
 use denote.Ref.{now}
+use Rattle.row.specs.Row.{tableOf}
 use Rattle.periods.specs.Charge.{imposed}
 use Rattle.analysis.specs.Walk.{walkJobs}
-use Rattle.answers.specs.Work.{tableAt}
 use Rattle.answers.proofs.Walks.{Going, going-on, going-stops, going-ends, stays, jobs-next, jobs-none}
 use Rattle.answers.proofs.walk.Walk.jobs.Statement.{statement}
 use Rattle.answers.proofs.walk.Walk.jobs.Tie as tie
 
 abbrev Inv-loop : tie.InvT-loop
-Inv-loop row s x jobs budget state₀ n₀ state n =
+Inv-loop work s x jobs budget state₀ n₀ state n =
     Going budget
-    (walkJobs imposed (tableAt row) (s .u) (s .a) (x .mode) (x .candidate) jobs 0 (budget - state₀ .used) (state₀ .best))
-    (walkJobs imposed (tableAt row) (s .u) (s .a) (x .mode) (x .candidate) (jobs - n) n)
+    (walkJobs imposed (tableOf work) (s .u) (s .a) (x .mode) (x .candidate) jobs 0 (budget - state₀ .used) (state₀ .best))
+    (walkJobs imposed (tableOf work) (s .u) (s .a) (x .mode) (x .candidate) (jobs - n) n)
     state
 
 abbrev μ-loop : tie.MeasureT-loop
-μ-loop row s x jobs budget state₀ n₀ state n = jobs - n
+μ-loop work s x jobs budget state₀ n₀ state n = jobs - n
 
 loop-holds : tie.Need-loop-holds Inv-loop μ-loop
 loop-holds c =
@@ -39,7 +39,7 @@ enum-known-step c = search needs
 returns : tie.Need-returns Inv-loop μ-loop
 returns c =
     let a = c .before .before .before .before .args in
-    let next = jobs-next imposed (tableAt (now (a .row))) (a .s .u) (a .s .a) (a .x .mode) (a .x .candidate) (a .jobs) (c .before .before .before .loop .n) (c .before .before .loop-test .taken) in
+    let next = jobs-next imposed (tableOf (now (a .work))) (a .s .u) (a .s .a) (a .x .mode) (a .x .candidate) (a .jobs) (c .before .before .before .loop .n) (c .before .before .loop-test .taken) in
     going-stops (c .before .before .before .loop .inv) next (c .before .job .ensures) (stays (c .before .job .result) (c .match .keys2))
 
 add-n : tie.Need-add-n Inv-loop μ-loop
@@ -52,7 +52,7 @@ loop-again : tie.Need-loop-again Inv-loop μ-loop
 loop-again c =
     let d = c .before .before .before in
     let a = d .before .before .before .args in
-    let next = jobs-next imposed (tableAt (now (a .row))) (a .s .u) (a .s .a) (a .x .mode) (a .x .candidate) (a .jobs) (d .before .before .loop .n) (d .before .loop-test .taken) in
+    let next = jobs-next imposed (tableOf (now (a .work))) (a .s .u) (a .s .a) (a .x .mode) (a .x .candidate) (a .jobs) (d .before .before .loop .n) (d .before .loop-test .taken) in
     going-on (d .before .before .loop .inv) next (d .job .ensures) (c .before .step .given .1)
 
 returns-2 : tie.Need-returns-2 Inv-loop μ-loop

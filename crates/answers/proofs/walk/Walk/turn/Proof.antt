@@ -6,30 +6,30 @@ use denote.Ref.{now}
 use Prim.Native.Nat.{ℕ, _-_, _≤_}
 use native.Mathlib.Nat.{le-of-eq}
 use native.Mathlib.Omega.{arith}
+use Rattle.row.specs.Row.{tableOf}
+use Rattle.table.specs.Limits.{horizon}
 use Rattle.table.specs.Table.{Table}
 use Rattle.periods.specs.Charge.{imposed}
 use Rattle.analysis.specs.Bound.{lastJob, jobsTo, busy}
 use Rattle.analysis.specs.Walk.{walkJobs, walkTurn}
-use Rattle.answers.specs.Lent.{longest}
-use Rattle.answers.specs.Turn.{IsTurn, walked}
-use Rattle.answers.specs.Work.{tableAt}
+use Rattle.answers.specs.Turn.{IsInstant, walked}
 use Rattle.answers.proofs.Chain.{Comes}
-use Rattle.answers.proofs.Turns.{turn-own, turn-first, turn-period, turn-phase, turn-last, turn-jobs, last-near, busy-comes}
+use Rattle.answers.proofs.Instants.{instant-own, instant-first, instant-period, instant-phase, instant-last, instant-jobs, last-near, busy-comes}
 use Rattle.answers.proofs.Walks.{afterStop, turn-walked}
 use Rattle.answers.proofs.walk.Walk.turn.Statement.{statement}
 use Rattle.answers.proofs.walk.Walk.turn.Tie as tie
 
-turn-of-requires : tie.Need-turn-of-requires
-turn-of-requires c κs = search needs
+instant-of-requires : tie.Need-instant-of-requires
+instant-of-requires c κs = search needs
 
 abbrev tab : tie.Start → Table
-tab c = tableAt (now (c .args .row))
+tab c = tableOf (now (c .args .work))
 
 -- the turn, by the mode and the candidate that it holds
-own : (c : tie.After-turn-of) → let a = c .before .args in let x = c .turn-of .result in IsTurn (tab (c .before)) (a .s .u) (a .s .a) (x .mode) (x .candidate) x
+own : (c : tie.After-instant-of) → let a = c .before .args in let x = c .instant-of .result in IsInstant (tab (c .before)) (a .s .u) (a .s .a) (x .mode) (x .candidate) x
 own c =
     let (lent, (subject, (setting, within))) = c .before .pre in
-    turn-own (lent .holds .kept) (subject .chosen .isTask) (c .turn-of .ensures)
+    instant-own (lent .table .kept) (subject .chosen .isTask) (c .instant-of .ensures)
 
 busy-chain-requires : tie.Need-busy-chain-requires
 busy-chain-requires c κs =
@@ -37,18 +37,18 @@ busy-chain-requires c κs =
     (lent, (subject, (own c, within)))
 
 -- one turn of the walk, by how the L chain stopped
-step : (c : tie.After-busy-chain) → let d = c .before .before in let a = d .args in let x = c .before .turn-of .result in walked (a .budget) (walkTurn imposed (tab d) (a .s .u) (a .s .a) (record { mode = a .m; candidate = a .c }) (a .budget - a .self .used) (a .self .best)) ≡ afterStop (λ L used. walked (a .budget) (walkJobs imposed (tab d) (a .s .u) (a .s .a) (x .mode) (x .candidate) (jobsTo (tab d) (a .s .u) (a .s .a) (x .candidate) (lastJob (tab d) (a .s .u) (a .s .a) (x .candidate) (L .0))) 0 (a .budget - used) (a .self .best))) (c .busy-chain .result)
+step : (c : tie.After-busy-chain) → let d = c .before .before in let a = d .args in let x = c .before .instant-of .result in walked (a .budget) (walkTurn imposed (tab d) (a .s .u) (a .s .a) (record { mode = a .m; candidate = a .c }) (a .budget - a .self .used) (a .self .best)) ≡ afterStop (λ L used. walked (a .budget) (walkJobs imposed (tab d) (a .s .u) (a .s .a) (x .mode) (x .candidate) (jobsTo (tab d) (a .s .u) (a .s .a) (x .candidate) (lastJob (tab d) (a .s .u) (a .s .a) (x .candidate) (L .0))) 0 (a .budget - used) (a .self .best))) (c .busy-chain .result)
 step c =
     let d = c .before .before in
     let a = d .args in
-    let x = c .before .turn-of .result in
-    let turn = c .before .turn-of .ensures in
+    let x = c .before .instant-of .result in
+    let turn = c .before .instant-of .ensures in
     rw (c .busy-chain .ensures, ← turn .mode, ← turn .candidate)
     (turn-walked imposed (tab d) (a .s .u) (a .s .a) (a .budget) (x .mode) (x .candidate) (a .budget - a .self .used) (a .self .best) (omega arith))
 
 -- where t came back
-abbrev Back : tie.After-turn-of → ℕ → Type 0
-Back c L = ((1 ≤ L) × (L ≤ longest)) × (busy (tab (c .before)) (c .before .args .s .u) (c .before .args .s .a) (c .turn-of .result .mode) (c .turn-of .result .candidate) L ≡ L)
+abbrev Back : tie.After-instant-of → ℕ → Type 0
+Back c L = ((1 ≤ L) × (L ≤ horizon)) × (busy (tab (c .before)) (c .before .args .s .u) (c .before .args .s .a) (c .instant-of .result .mode) (c .instant-of .result .candidate) L ≡ L)
 
 comes : (c : tie.After-length) → Back (c .before .before .before) (c .length .given .0 .0 .0) × (c .length .given .0 .1 .0 ≤ c .before .before .before .before .args .budget)
 comes c =
@@ -56,7 +56,7 @@ comes c =
     let (lent, (subject, (setting, within))) = d .before .pre in
     let a = d .before .args in
     subst (Comes (a .budget) (Back d)) (sym (c .before .before .busy-chain .ensures) ∙ c .length .given .1)
-    (busy-comes (lent .holds .kept) (subject .chosen .isTask) (own d .setting) (a .budget) (a .budget - a .self .used))
+    (busy-comes (lent .table .kept) (subject .chosen .isTask) (own d .setting) (a .budget) (a .budget - a .self .used))
 
 enum-known-length : tie.Need-enum-known-length
 enum-known-length c = search needs
@@ -65,26 +65,26 @@ last-job-requires : tie.Need-last-job-requires
 last-job-requires c κs =
     let d = c .before .before .before .before .before .before .before in
     let (lent, (subject, (setting, within))) = d .before .pre in
-    (turn-phase (lent .holds .kept) (subject .chosen .isTask) (own d), (turn-period (lent .holds .kept) (subject .chosen .isTask) (own d), comes (c .before .before .before .before) .0 .0))
+    (instant-phase (lent .table .kept) (subject .chosen .isTask) (own d), (instant-period (lent .table .kept) (subject .chosen .isTask) (own d), comes (c .before .before .before .before) .0 .0))
 
-last : (c : tie.After-last-job) → let d = c .before .before .before .before .before .before .before .before in let a = d .before .args in c .last-job .result .0 ≡ lastJob (tab (d .before)) (a .s .u) (a .s .a) (d .turn-of .result .candidate) (c .before .before .before .before .before .length .given .0 .0 .0)
+last : (c : tie.After-last-job) → let d = c .before .before .before .before .before .before .before .before in let a = d .before .args in c .last-job .result .0 ≡ lastJob (tab (d .before)) (a .s .u) (a .s .a) (d .instant-of .result .candidate) (c .before .before .before .before .before .length .given .0 .0 .0)
 last c =
     let d = c .before .before .before .before .before .before .before .before in
     let (lent, (subject, (setting, within))) = d .before .pre in
-    c .last-job .ensures ∙ turn-last (lent .holds .kept) (subject .chosen .isTask) (own d) (c .before .before .before .before .before .length .given .0 .0 .0)
+    c .last-job .ensures ∙ instant-last (lent .table .kept) (subject .chosen .isTask) (own d) (c .before .before .before .before .before .length .given .0 .0 .0)
 
 jobs-to-requires : tie.Need-jobs-to-requires
 jobs-to-requires c κs =
     let d = c .before .before .before .before .before .before .before .before in
     let (lent, (subject, (setting, within))) = d .before .pre in
     let k = comes (c .before .before .before .before .before) in
-    (turn-first (lent .holds .kept) (subject .chosen .isTask) (own d), rw (last c) (last-near (lent .holds .kept) (subject .chosen .isTask) (d .turn-of .result .candidate) (k .0 .0 .1)))
+    (instant-first (lent .table .kept) (subject .chosen .isTask) (own d), rw (last c) (last-near (lent .table .kept) (subject .chosen .isTask) (d .instant-of .result .candidate) (k .0 .0 .1)))
 
-jobs : (c : tie.After-jobs-to) → let d = c .before .before .before .before .before .before .before .before .before in let a = d .before .args in c .jobs-to .result ≡ jobsTo (tab (d .before)) (a .s .u) (a .s .a) (d .turn-of .result .candidate) (lastJob (tab (d .before)) (a .s .u) (a .s .a) (d .turn-of .result .candidate) (c .before .before .before .before .before .before .length .given .0 .0 .0))
+jobs : (c : tie.After-jobs-to) → let d = c .before .before .before .before .before .before .before .before .before in let a = d .before .args in c .jobs-to .result ≡ jobsTo (tab (d .before)) (a .s .u) (a .s .a) (d .instant-of .result .candidate) (lastJob (tab (d .before)) (a .s .u) (a .s .a) (d .instant-of .result .candidate) (c .before .before .before .before .before .before .length .given .0 .0 .0))
 jobs c =
     let d = c .before .before .before .before .before .before .before .before .before in
     let (lent, (subject, (setting, within))) = d .before .pre in
-    rw (← (last (c .before))) (c .jobs-to .ensures ∙ turn-jobs (lent .holds .kept) (subject .chosen .isTask) (own d) (c .before .last-job .result .0))
+    rw (← (last (c .before))) (c .jobs-to .ensures ∙ instant-jobs (lent .table .kept) (subject .chosen .isTask) (own d) (c .before .last-job .result .0))
 
 jobs-requires : tie.Need-jobs-requires
 jobs-requires c κs =
@@ -115,7 +115,7 @@ pub turn-spec : {M : Type 1} → statement M
 turn-spec =
     tie.close
     (tie.spec
-    turn-of-requires
+    instant-of-requires
     busy-chain-requires
     enum-known-length
     last-job-requires
