@@ -4,5 +4,6 @@ pub mod Accepted
 pub mod Said
 pub mod Kept
 pub mod Reach
+pub mod Cut
 pub mod Spans
 pub mod Round

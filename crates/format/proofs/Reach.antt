@@ -44,8 +44,12 @@ module _ (image : List ℕ) where
         tasks-reach (tasksIn image p) (modesIn image p) (each u (omega arith) .fewModes),
       )
 
-  reach-most : (u : ℕ) → u ≤ 32 → ((v : ℕ) → v < u → Sound v) → start image u ≤ 20_162
+  pub reach-most : (u : ℕ) → u ≤ 32 → ((v : ℕ) → v < u → Sound v) → start image u ≤ 20_162
   reach-most u h each = omega (arith, reach u each, few-before image u each)
+
+  -- the head of a transaction that is not too many ends before
+  pub head-reach : (u : ℕ) → u < 32 → ((v : ℕ) → v < u → Sound v) → start image u + 33 ≤ 20_162
+  head-reach u h each = omega (arith, reach u each, few-before image u each)
 
   -- no accepted image is longer than 2,521 bytes
   pub longest : IsAccepted image → length image ≤ longestImage
@@ -99,7 +103,7 @@ module _ (image : List ℕ) where
       (λ e. place-checked most _ _ (timeAt q 0) (omega arith))
 
   -- task j of transaction u ends where the next transaction starts, or before
-  task-reach :
+  pub task-reach :
       (p j : ℕ)
       → j < tasksIn image p
       → taskAt p (modesIn image p) j + taskWidth (modesIn image p) ≤ past image p
@@ -137,7 +141,7 @@ module _ (image : List ℕ) where
   end-place p h =
       place-then most _ _ (place-checked most _ _ _ (omega arith)) (λ e. place-checked most _ _ _ (omega arith))
 
-  sound-before :
+  pub sound-before :
       (n : ℕ)
       → firstOf n (λ u. transactionFault image (tasksBefore image u) (start image u)) ≡ Accepted
       → (v : ℕ)

@@ -116,6 +116,20 @@ both-second false t h = cc
 pub both-hold : {s t : Bool} → s ≡ true → t ≡ true → (s && t) ≡ true
 both-hold h k = rw (h, k)
 
+-- ---- a later finding is given only where those before it held, so it has to be the same only there
+
+pub then-same : (a : Answer) {b c : Answer} → (a ≡ Accepted → b ≡ c) → (a then b) ≡ (a then c)
+unfolding _then_
+then-same Accepted h = h refl
+then-same (Refused r at) h = refl
+
+pub first-same : (n : ℕ) (f g : ℕ → Answer) → ((k : ℕ) → k < n → firstOf k f ≡ Accepted → f k ≡ g k) → firstOf n f ≡ firstOf n g
+unfolding firstOf foundOf
+first-same zero f g h = refl
+first-same (suc n) f g h =
+    let earlier : firstOf n f ≡ firstOf n g = first-same n f g (λ k l so-far. h k (omega arith) so-far) in
+    then-same (firstOf n f) (λ so-far. h n (omega arith) so-far) ∙ ap (λ (a : Answer). a then g n) earlier
+
 -- ---- how far the place of a finding reaches: a later check is looked at only where the earlier ones held
 
 pub place-checked : (most : ℕ) (t : Bool) (r : Refusal) (at : ℕ) → at ≤ most → answerPlace (checked t r at) ≤ most
