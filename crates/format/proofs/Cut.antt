@@ -13,15 +13,15 @@ use Rattle.refusals.specs.declared.Answer.{Answer}
 use Rattle.refusals.specs.declared.Answer.the-variants.{Accepted}
 use Rattle.refusals.specs.declared.Refusal.the-variants.{EndsInside, PaddingSet, BytesFollow}
 use Rattle.refusals.specs.Answer.{_then_, foundOf, firstOf, checked}
-use Rattle.refusals.proofs.Findings.{none-first, none-second, then-same, first-same}
-use Rattle.bits.specs.Bits.{bitAt, valueAt, isInside}
+use Rattle.refusals.proofs.Findings.{then-same, first-same}
+use Rattle.bits.specs.Bits.{bitAt, valueAt}
 use Rattle.table.specs.Sum.{sum}
-use Rattle.table.specs.Limits.{limits, frameWidth, transactionsWidth, modesWidth, tasksWidth, deadlineWidth, timeWidth}
+use Rattle.table.specs.Limits.{limits, frameWidth, transactionsWidth, modesWidth, tasksWidth, timeWidth}
 use Rattle.table.specs.Fields.{HeaderField, HeadField, widthInHeader, widthInHead}
 use Rattle.table.specs.Rules.{headerRules, headRules, taskRules}
 use Rattle.table.proofs.Sum.{sum-ext}
 use Rattle.format.specs.Places.{frameAt, countAt, modesAt, tasksAt, jitterAt, blockingAt, deadlineAt, priorityAt, timeAt, placeInHeader, placeInHead, taskWidth, taskAt, past, start, bytesTo, longestImage}
-use Rattle.format.specs.Said.{frameIn, countIn, modesIn, tasksIn, tasksBefore}
+use Rattle.format.specs.Said.{countIn, modesIn, tasksIn, tasksBefore}
 use Rattle.format.specs.Fault.{endsAt, lookAt, headerFault, headFault, taskFault, transactionFault, endFault, bodyFault, imageFault}
 use Rattle.format.proofs.Faults.{image-parts, body-parts, transaction-parts}
 use Rattle.format.proofs.Accepted.{SoundHead, sound-header, sound-head}
