@@ -1,7 +1,5 @@
 pub mod Answered
-pub mod Told
-pub mod Agree
-pub mod Sample
+pub mod Read
 pub mod Readings
 pub mod Flags
 pub mod Signed

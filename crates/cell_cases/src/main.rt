@@ -1,12 +1,13 @@
-// Worked tables as cells: the row before and after a call, with budgets and rows of several sizes. Standard input is a row
-// of cases: budget, 4 bytes most significant first; cells in the row, 2 bytes; length of the image, 2 bytes; the image. A line
-// for each: the answer's number and place, the number for the C host of the row's first task, and every cell of the row,
-// which holds 7s before the call.
+// Worked tables as cells: those that are lent before and after a call, with budgets and several numbers of cells. Standard
+// input is case after case: budget, 4 bytes most significant first; cells that are lent, 2 bytes; length of the image, 2
+// bytes; the image. A line for each: the answer's number and place, the number for the C host of the first task, and every
+// cell, which holds 7 before the call.
 use libc::STDIN_FILENO;
 use libc::STDOUT_FILENO;
 ghost use Prim.Native.Nat.{_<_};
 
-const CELLS: usize = 200;
+// Some more than any table needs.
+const MOST: usize = sumpcandle::CELLS + 8;
 
 // The number in two bytes.
 fn two(high: u8, low: u8) -> u32
@@ -24,32 +25,32 @@ fn wide(x: u32) -> u64 {
     x as u64
 }
 
-fn show(row: &[u32]) {
+fn show(cells: &[u32]) {
     let mut k: usize = 0;
-    while k < row.len() {
-        number(wide(row[k]));
+    while k < cells.len() {
+        number(wide(cells[k]));
         k += 1;
     }
     io::write_all(STDOUT_FILENO, b"\n");
 }
 
-fn told(image: &[u8], budget: u32, row: &mut [u32]) {
-    let answer = sumpcandle::cells(image, budget, row);
+fn told(image: &[u8], budget: u32, cells: &mut [u32]) {
+    let answer = sumpcandle::cells(image, budget, cells);
     number(wide(answer.number()));
     number(answer.place() as u64);
     number(sumpcandle::sumpcandle_response(image, 0, budget));
-    show(row);
+    show(cells);
 }
 
-fn with_row(bytes: &[u8], n: usize, cells: usize, budget: u32) {
-    let mut row = [7u32; CELLS];
+fn with_cells(bytes: &[u8], n: usize, count: usize, budget: u32) {
+    let mut cells = [7u32; MOST];
     if bytes.len() < n {
         return;
     }
-    if CELLS < cells {
+    if MOST < count {
         return;
     }
-    told(&bytes[..n], budget, &mut row[..cells]);
+    told(&bytes[..n], budget, &mut cells[..count]);
 }
 
 // One case; false at the end of the input.
@@ -59,7 +60,7 @@ fn case(bytes: &mut [u8]) -> bool {
         return false;
     }
     let budget = two(head[0], head[1]) * 65536 + two(head[2], head[3]);
-    let cells = two(head[4], head[5]) as usize;
+    let count = two(head[4], head[5]) as usize;
     let length = two(head[6], head[7]) as usize;
     if bytes.len() < length {
         return false;
@@ -67,7 +68,7 @@ fn case(bytes: &mut [u8]) -> bool {
     if io::read_full(STDIN_FILENO, &mut bytes[..length]) < length {
         return false;
     }
-    with_row(bytes, length, cells, budget);
+    with_cells(bytes, length, count, budget);
     true
 }
 

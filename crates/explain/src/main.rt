@@ -5,12 +5,8 @@ use libc::STDOUT_FILENO;
 use refusals::Answer;
 use refusals::Refusal;
 use row::Table;
+use sumpcandle::TaskCells;
 ghost use Prim.Native.Nat.{_<_, _^_};
-
-const BUDGET: u32 = 1_000_000;
-
-// Three for each of 64 tasks.
-const CELLS: usize = 192;
 
 fn wide(x: u32) -> u64 {
     x as u64
@@ -55,46 +51,44 @@ fn bounded(bound: u32, deadline: u32) {
     }
 }
 
+// A task that has none.
 fn unbounded(code: u32) {
-    match code {
-        21 => say(
+    if code == TaskCells::OVERLOAD {
+        say(
             b" has no bound: it and the tasks that can delay it want more than the major frame holds",
-        ),
-        22 => say(b" has no bound: its busy time can pass the horizon of 16777215 ticks"),
-        _ => say(b" is not decided: 1000000 evaluations were not enough"),
+        );
+    } else if code == TaskCells::BEYOND {
+        say(b" has no bound: its busy time can pass the horizon of ");
+        ticks(Table::HORIZON);
+    } else {
+        say(b" is not decided: ");
+        number(wide(input::BUDGET));
+        say(b" evaluations were not enough");
     }
 }
 
-fn task(row: &[u32; CELLS], k: usize, deadline: u32) {
-    if 64 <= k {
+fn task(cells: &[u32; sumpcandle::CELLS], k: usize, deadline: u32) {
+    if Table::TASKS <= k {
         return;
     }
     say(b"task ");
     number(k as u64);
-    let code = row[3 * k];
-    if code <= 20 {
-        bounded(row[3 * k + 1], deadline);
+    let code = cells[TaskCells::COUNT * k + TaskCells::CODE_CELL];
+    if code <= TaskCells::LATE {
+        bounded(
+            cells[TaskCells::COUNT * k + TaskCells::BOUND_CELL],
+            deadline,
+        );
     } else {
         unbounded(code);
     }
     say(b"\n");
 }
 
-// The tasks of transaction u, of which the first has the number `first`.
-fn tasks(row: &[u32; CELLS], table: &[u32; Table::CELLS], u: usize) {
-    let first = index(Table::first(table, u));
-    let count = index(Table::tasks(table, u));
-    for j in 0..count {
-        if j < 64 {
-            task(row, first + j, Table::deadline(table, u, j));
-        }
-    }
-}
-
-fn every_task(row: &[u32; CELLS], table: &[u32; Table::CELLS]) {
-    let count = index(Table::transactions(table));
-    for u in 0..count {
-        tasks(row, table, u);
+fn every_task(cells: &[u32; sumpcandle::CELLS], table: &[u32; Table::CELLS]) {
+    let count = index(Table::in_all(table));
+    for k in 0..count {
+        task(cells, k, Table::deadline(table, k));
     }
 }
 
@@ -128,18 +122,18 @@ fn explain(image: &[u8]) {
     let reading = image::read(image);
     let answer = reading.answer;
     let table = reading.table;
-    let mut row = [0u32; CELLS];
+    let mut cells = [0u32; sumpcandle::CELLS];
     match answer {
         Answer::Refused(refusal, at) => refused(refusal, at),
         Answer::Accepted => {
-            sumpcandle::cells(image, BUDGET, &mut row);
-            every_task(&row, &table.cells);
+            sumpcandle::cells(image, input::BUDGET, &mut cells);
+            every_task(&cells, &table.cells);
         }
     }
 }
 
 fn main() {
-    let mut image = [0u8; input::LONGEST];
+    let mut image = [0u8; input::BUFFER];
     match input::take_in(&mut image) {
         Input::Bytes(n) => explain(&image[..n]),
         Input::Failed => {

@@ -2,8 +2,11 @@
 // the limits of a table; it knows nothing of interference, of bounds or of what a table is read for.
 use refusals::Answer;
 use row::Table;
+use row::Task;
+use row::Transaction;
 ghost use mathlib.Core.Path.{_≡_};
 ghost use Rattle.format.specs.Fault.{imageFault};
+ghost use Rattle.format.specs.Places.{longestImage};
 ghost use Rattle.image.specs.Read.{rowFor};
 
 mod fill;
@@ -14,6 +17,21 @@ mod scan;
 pub struct Reading {
     pub answer: Answer,
     pub table: Table,
+}
+
+impl Reading {
+    // The longest image that is accepted, in bytes: every count at its limit.
+    pub const LONGEST: usize = (Table::FIRST_AT
+        + Table::TRANSACTIONS * Transaction::WIDTH
+        + Table::TASKS * (Task::TIMES_AT + Transaction::MODES * Task::TIME_WIDTH)
+        + 7)
+        / 8;
+
+    pub fn longest() -> usize
+        ensures { λ r. ⌜ r ≡ longestImage ⌝ }
+    {
+        Reading::LONGEST
+    }
 }
 
 pub fn read(image: &[u8]) -> Reading

@@ -1,11 +1,15 @@
-// One image from standard input. No contract can say which bytes a read gives; what is promised is that the count lies
-// within the buffer, and that a failed read is told apart from the end of the input.
+// One image from standard input, and under which budget it is asked. No contract can say which bytes a read gives; what is
+// promised is that the count lies within the buffer, and that a failed read is told apart from the end of the input.
+use image::Reading;
 use libc::STDIN_FILENO;
 ghost use lib.ListN.{length};
 ghost use Rattle.input.specs.Input.{Within};
 
 // One byte more than the longest image, so that a longer input is seen to be too long.
-pub const LONGEST: usize = 2_522;
+pub const BUFFER: usize = Reading::LONGEST + 1;
+
+// The programs' budget.
+pub const BUDGET: u32 = 1_000_000;
 
 pub enum Input {
     // That many bytes stand in the buffer.

@@ -1,13 +1,15 @@
 // Answers many images in one run, for comparison with a second program. Standard input is a row of cases: budget, 4 bytes
 // most significant first; length of the image, 2 bytes; the image. A line for each: `accepted` and the cells of its tasks,
 // or `refused`, number and place. A case that is cut short ends the run.
-use answers::Filled;
 use libc::STDIN_FILENO;
 use libc::STDOUT_FILENO;
-ghost use Prim.Native.Nat.{_<_, _≤_};
+use row::Table;
+use sumpcandle::Filled;
+use sumpcandle::TaskCells;
+ghost use Prim.Native.Nat.{_*_, _<_, _≤_};
 ghost use lib.ListN.{length};
-
-const CELLS: usize = 192;
+ghost use Rattle.table.specs.Limits.{tasksInAll};
+ghost use Rattle.told.specs.Cells.{cellsOfTask};
 
 // The number in two bytes.
 fn two(high: u8, low: u8) -> u32
@@ -20,9 +22,9 @@ fn wide(x: u32) -> u64 {
     x as u64
 }
 
-// The longest line: `accepted`, 192 numbers of at most 10 digits with a space before each, and its end. A line is made whole
-// and then written by one call.
-const LINE: usize = 2121;
+// The longest line: `accepted`, a number of at most 10 digits with a space before it for each cell, and its end. A line is
+// made whole and then written by one call.
+const LINE: usize = 8 + 11 * sumpcandle::CELLS + 1;
 
 // Puts a byte into the line, and answers where the next one goes.
 fn add(line: &mut [u8], at: usize, x: u8) -> usize
@@ -68,17 +70,21 @@ fn write(line: &mut [u8], at: usize)
 }
 
 fn cells_of(tasks: usize) -> usize
-    ensures { λ r. ⌜ r ≤ 192 ⌝ }
+    ensures { λ r. ⌜ r ≤ cellsOfTask * tasksInAll ⌝ }
 {
-    if tasks < CELLS / 3 { 3 * tasks } else { CELLS }
+    if tasks < Table::TASKS {
+        TaskCells::COUNT * tasks
+    } else {
+        sumpcandle::CELLS
+    }
 }
 
-fn accepted(row: &[u32; CELLS], tasks: usize) {
+fn accepted(cells: &[u32; sumpcandle::CELLS], tasks: usize) {
     let mut space = [0u8; LINE];
     let line: &mut [u8] = &mut space;
     let mut at = word(line, 0, b"accepted");
     for k in 0..cells_of(tasks) {
-        at = number(line, at, wide(row[k]));
+        at = number(line, at, wide(cells[k]));
     }
     write(line, at);
 }
@@ -98,12 +104,11 @@ fn answer(bytes: &[u8], n: usize, budget: u32) {
         return;
     }
     let image = &bytes[..n];
-    let mut row = [0u32; CELLS];
-    let told = sumpcandle::cells(image, budget, &mut row);
+    let mut cells = [0u32; sumpcandle::CELLS];
+    let told = sumpcandle::cells(image, budget, &mut cells);
     match told {
-        Filled::Done(tasks) => accepted(&row, tasks),
+        Filled::Done(tasks) => accepted(&cells, tasks),
         Filled::Refused(_, _) => refused(told),
-        Filled::Short => refused(told),
     }
 }
 

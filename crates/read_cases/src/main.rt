@@ -3,7 +3,7 @@
 // is accepted the fields of its table, read through the lent row.
 use libc::STDOUT_FILENO;
 use row::Table;
-ghost use Prim.Native.Nat.{_+_, _≤_, _<_};
+ghost use Prim.Native.Nat.{_≤_, _<_, _^_};
 ghost use lib.ListN.{length};
 
 // More bytes than any line of the input has.
@@ -82,6 +82,10 @@ fn joined(upper: u8, lower: u8) -> u8 {
 }
 
 fn word(name: &[u8], n: u32) {
+    count_of(name, index(n));
+}
+
+fn count_of(name: &[u8], n: usize) {
     io::write_all(STDOUT_FILENO, name);
     io::print_decimal(STDOUT_FILENO, n as u64);
 }
@@ -99,17 +103,21 @@ fn show(image: &[u8]) {
     }
 }
 
-fn show_table(row: &[u32; Table::CELLS]) {
+fn index(x: u32) -> usize
+    ensures { λ r. ⌜ r < 2 ^ 32 ⌝ }
+{
+    x as usize
+}
+
+fn show_table(row: &[u32]) {
     show_header(row);
-    let count = Table::transactions(row);
-    let mut u: u32 = 0;
-    while u < count {
+    let count = index(Table::transactions(row));
+    for u in 0..count {
         show_transaction(row, u);
-        u += 1;
     }
 }
 
-fn show_header(row: &[u32; Table::CELLS]) {
+fn show_header(row: &[u32]) {
     word(b"edition ", Table::edition(row));
     word(b" frame ", Table::frame(row));
     word(b" transactions ", Table::transactions(row));
@@ -117,52 +125,47 @@ fn show_header(row: &[u32; Table::CELLS]) {
     end_line();
 }
 
-fn show_transaction(row: &[u32; Table::CELLS], u: u32) {
+fn show_transaction(row: &[u32], u: usize) {
     show_head(row, u);
-    let count = Table::tasks(row, u as usize);
-    let mut j: u32 = 0;
-    while j < count {
-        show_task(row, u, j);
-        j += 1;
+    let first = index(Table::first(row, u));
+    let count = index(Table::tasks(row, u));
+    for j in 0..count {
+        place(u, j);
+        show_task(row, first + j, index(Table::modes(row, u)));
     }
 }
 
-fn show_head(row: &[u32; Table::CELLS], u: u32) {
-    let at = u as usize;
-    word(b"transaction ", u);
-    word(b" period ", Table::period(row, at));
-    word(b" modes ", Table::modes(row, at));
-    word(b" first ", Table::first(row, at));
-    word(b" tasks ", Table::tasks(row, at));
+fn show_head(row: &[u32], u: usize) {
+    count_of(b"transaction ", u);
+    word(b" period ", Table::period(row, u));
+    word(b" modes ", Table::modes(row, u));
+    word(b" first ", Table::first(row, u));
+    word(b" tasks ", Table::tasks(row, u));
     end_line();
 }
 
-fn show_task(row: &[u32; Table::CELLS], u: u32, j: u32) {
-    show_fields(row, u, j);
-    let count = Table::modes(row, u as usize);
-    let mut m: u32 = 0;
-    while m < count {
-        show_time(Table::time(row, u as usize, m as usize, j as usize));
-        m += 1;
+// The transaction of a task, and its place there.
+fn place(u: usize, j: usize) {
+    count_of(b"task ", u);
+    count_of(b" ", j);
+}
+
+// The task with number k, which has so many modes.
+fn show_task(row: &[u32], k: usize, modes: usize) {
+    show_fields(row, k);
+    for m in 0..modes {
+        word(b" ", Table::time(row, k, m));
     }
     end_line();
 }
 
-fn show_fields(row: &[u32; Table::CELLS], u: u32, j: u32) {
-    let at = u as usize;
-    let place = j as usize;
-    word(b"task ", u);
-    word(b" ", j);
-    word(b" offset ", Table::offset(row, at, place));
-    word(b" jitter ", Table::jitter(row, at, place));
-    word(b" blocking ", Table::blocking(row, at, place));
-    word(b" deadline ", Table::deadline(row, at, place));
-    word(b" priority ", Table::priority(row, at, place));
+fn show_fields(row: &[u32], k: usize) {
+    word(b" offset ", Table::offset(row, k));
+    word(b" jitter ", Table::jitter(row, k));
+    word(b" blocking ", Table::blocking(row, k));
+    word(b" deadline ", Table::deadline(row, k));
+    word(b" priority ", Table::priority(row, k));
     io::write_all(STDOUT_FILENO, b" times");
-}
-
-fn show_time(c: u32) {
-    word(b" ", c);
 }
 
 fn end_line() {

@@ -6,8 +6,8 @@ use Rattle.table.specs.Table.{Table}
 use Rattle.refusals.specs.declared.Answer.the-variants.{Refused}
 use Rattle.format.specs.Fault.{imageFault}
 use Rattle.format.specs.Fault.{IsAccepted}
-use Rattle.answers.specs.Told.{FillsFrom, Fills}
-use Rattle.answers.proofs.Told.{read-table, read-lent}
+use Rattle.told.specs.Told.{FillsFrom, Fills}
+use Rattle.answers.proofs.Read.{read-table, read-lent}
 use Rattle.answers.proofs.cells.Statement.{statement}
 use Rattle.answers.proofs.cells.Tie as tie
 
@@ -50,7 +50,7 @@ returns-2 c =
     let y = x .before .before in
     let s = y .before .before .before .args in
     Fills.accepted (accepted x)
-    (subst (λ (tab : Table). FillsFrom tab (s .budget) (now (s .row)) (f .fill .last .1 .1 .0) (f .fill .result))
+    (subst (λ (tab : Table). FillsFrom tab (s .budget) (now (s .cells)) (f .fill .last .1 .1 .0) (f .fill .result))
     (read-table (now (s .image)) (y .read .result .table .cells) (accepted x) (y .read .ensures .1))
     (f .fill .ensures))
 

@@ -7,8 +7,9 @@ use Rattle.table.specs.Table.{Table}
 use Rattle.refusals.specs.declared.Answer.the-variants.{Refused}
 use Rattle.format.specs.Fault.{imageFault}
 use Rattle.format.specs.Fault.{IsAccepted}
-use Rattle.answers.specs.Told.{RespondsFrom, Responds}
-use Rattle.answers.proofs.Told.{read-table, read-lent, place-small}
+use Rattle.told.specs.Told.{RespondsFrom, Responds}
+use Rattle.told.proofs.Told.{place-small}
+use Rattle.answers.proofs.Read.{read-table, read-lent}
 use Rattle.answers.proofs.response.Statement.{statement}
 use Rattle.answers.proofs.response.Tie as tie
 

@@ -5,9 +5,8 @@ use denote.Ref.{now}
 use borrow.Author.Needs.{needs}
 use Rattle.table.specs.Number.{inAll}
 use Rattle.row.specs.Row.{tableOf}
-use Rattle.answers.specs.Told.{RespondsFrom}
 use Rattle.row.proofs.Fields.{in-all-cell}
-use Rattle.answers.proofs.Told.{cells-respond}
+use Rattle.told.specs.Told.{RespondsFrom}
 use Rattle.answers.proofs.response_of.Statement.{statement}
 use Rattle.answers.proofs.response_of.Tie as tie
 
@@ -39,17 +38,19 @@ returns c =
     let t = c .before in
     let x = t .before .before .before .before .before .before .before .before in
     subst (RespondsFrom (tableOf (now (x .args .table))) (x .args .task) (x .args .budget)) (sym (c .pair .ensures))
-    (cells-respond (x .pre .kept) (t .task-cells .ensures .0))
+    (RespondsFrom.told (t .task-cells .ensures .0))
+
+number-requires : tie.Need-number-requires
+number-requires c κs = search needs
 
 pair-requires-2 : tie.Need-pair-requires-2
 pair-requires-2 c κs = search needs
 
 returns-2 : tie.Need-returns-2
 returns-2 c =
-    let y = c .before .before in
-    let x = y .before .before .before in
-    subst (RespondsFrom (tableOf (now (x .args .table))) (x .args .task) (x .args .budget)) (sym (c .pair2 .ensures))
-    (RespondsFrom.unknown (omega (arith, c .before .if1 .left, all y)))
+    let n = c .before in
+    let y = n .before .before in
+    rw (c .pair2 .ensures, n .number .ensures) (RespondsFrom.unknown (omega (arith, n .before .if1 .left, all y)))
 
 pub response-of-spec : {M : Type 1} → statement M
 response-of-spec =
@@ -61,5 +62,6 @@ response-of-spec =
     task-cells-requires
     pair-requires
     returns
+    number-requires
     pair-requires-2
     returns-2)

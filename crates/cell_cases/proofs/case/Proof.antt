@@ -48,8 +48,8 @@ array-read-two-6 c = search needs
 two-requires-3 : tie.Need-two-requires-3
 two-requires-3 c κs = search needs
 
-cast-cells : tie.Need-cast-cells
-cast-cells c = search needs
+cast-count : tie.Need-cast-count
+cast-count c = search needs
 
 array-read-two-7 : tie.Need-array-read-two-7
 array-read-two-7 c = search needs
@@ -81,8 +81,8 @@ same-length c = search needs
 returns-3 : tie.Need-returns-3
 returns-3 c = search needs
 
-with-row-requires : tie.Need-with-row-requires
-with-row-requires c κs = search needs
+with-cells-requires : tie.Need-with-cells-requires
+with-cells-requires c κs = search needs
 
 same-length-2 : tie.Need-same-length-2
 same-length-2 c = search needs
@@ -108,7 +108,7 @@ case-spec =
     array-read-two-5
     array-read-two-6
     two-requires-3
-    cast-cells
+    cast-count
     array-read-two-7
     array-read-two-8
     two-requires-4
@@ -119,6 +119,6 @@ case-spec =
     read-full-requires-2
     same-length
     returns-3
-    with-row-requires
+    with-cells-requires
     same-length-2
     returns-4)

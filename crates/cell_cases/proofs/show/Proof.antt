@@ -6,10 +6,10 @@ use Rattle.cell_cases.proofs.show.Statement.{statement}
 use Rattle.cell_cases.proofs.show.Tie as tie
 
 abbrev Inv-loop : tie.InvT-loop
-Inv-loop row k₀ t3 k = k ≤ length row
+Inv-loop cells k₀ t3 k = k ≤ length cells
 
 abbrev μ-loop : tie.MeasureT-loop
-μ-loop row k₀ t3 k = length row - k
+μ-loop cells k₀ t3 k = length cells - k
 
 loop-holds : tie.Need-loop-holds Inv-loop μ-loop
 loop-holds c = search needs

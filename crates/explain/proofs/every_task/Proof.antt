@@ -1,17 +1,17 @@
--- `explain::every_task` ends: each turn leaves fewer transactions.
+-- `explain::every_task` ends: each turn leaves fewer tasks.
 use borrow.Author.Needs.{needs}
 use Prim.Native.Nat.{_-_, _≤_}
 use Rattle.explain.proofs.every_task.Statement.{statement}
 use Rattle.explain.proofs.every_task.Tie as tie
 
 abbrev Inv-loop : tie.InvT-loop
-Inv-loop row table count u₀ u = u ≤ count
+Inv-loop cells table count k₀ k = k ≤ count
 
 abbrev μ-loop : tie.MeasureT-loop
-μ-loop row table count u₀ u = count - u
+μ-loop cells table count k₀ k = count - k
 
-transactions-requires : tie.Need-transactions-requires Inv-loop μ-loop
-transactions-requires c κs = search needs
+in-all-requires : tie.Need-in-all-requires Inv-loop μ-loop
+in-all-requires c κs = search needs
 
 index-requires : tie.Need-index-requires Inv-loop μ-loop
 index-requires c κs = search needs
@@ -19,11 +19,14 @@ index-requires c κs = search needs
 loop-holds : tie.Need-loop-holds Inv-loop μ-loop
 loop-holds c = search needs
 
-tasks-requires : tie.Need-tasks-requires Inv-loop μ-loop
-tasks-requires c κs = search needs
+deadline-requires : tie.Need-deadline-requires Inv-loop μ-loop
+deadline-requires c κs = search needs
 
-add-u : tie.Need-add-u Inv-loop μ-loop
-add-u c = search needs
+task-requires : tie.Need-task-requires Inv-loop μ-loop
+task-requires c κs = search needs
+
+add-k : tie.Need-add-k Inv-loop μ-loop
+add-k c = search needs
 
 loop-less : tie.Need-loop-less Inv-loop μ-loop
 loop-less c = search needs
@@ -40,11 +43,12 @@ every-task-spec =
     (tie.spec
     Inv-loop
     μ-loop
-    transactions-requires
+    in-all-requires
     index-requires
     loop-holds
-    tasks-requires
-    add-u
+    deadline-requires
+    task-requires
+    add-k
     loop-less
     loop-again
     returns)

@@ -5,10 +5,10 @@ use Rattle.listing.proofs.lines.Statement.{statement}
 use Rattle.listing.proofs.lines.Tie as tie
 
 abbrev Inv-loop : tie.InvT-loop
-Inv-loop row tasks k₀ k = k ≤ tasks
+Inv-loop cells tasks k₀ k = k ≤ tasks
 
 abbrev μ-loop : tie.MeasureT-loop
-μ-loop row tasks k₀ k = tasks - k
+μ-loop cells tasks k₀ k = tasks - k
 
 slice-aggregate-write-all : tie.Need-slice-aggregate-write-all Inv-loop μ-loop
 slice-aggregate-write-all c = search needs

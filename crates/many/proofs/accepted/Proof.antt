@@ -1,15 +1,17 @@
 -- `many::accepted` ends: each turn leaves fewer cells. What is made of the line lies in it.
 use borrow.Author.Needs.{needs}
 use lib.ListN.{length}
-use Prim.Native.Nat.{_-_, _≤_}
+use Prim.Native.Nat.{_-_, _*_, _≤_}
+use Rattle.table.specs.Limits.{tasksInAll}
+use Rattle.told.specs.Cells.{cellsOfTask}
 use Rattle.many.proofs.accepted.Statement.{statement}
 use Rattle.many.proofs.accepted.Tie as tie
 
 abbrev Inv-loop : tie.InvT-loop
-Inv-loop row tasks line₀ at₀ k₀ k-end line at k = (k-end ≤ 192) × (at ≤ length line)
+Inv-loop cells tasks line₀ at₀ k₀ k-end line at k = (k-end ≤ cellsOfTask * tasksInAll) × (at ≤ length line)
 
 abbrev μ-loop : tie.MeasureT-loop
-μ-loop row tasks line₀ at₀ k₀ k-end line at k = k-end - k
+μ-loop cells tasks line₀ at₀ k₀ k-end line at k = k-end - k
 
 slice-aggregate-line : tie.Need-slice-aggregate-line Inv-loop μ-loop
 slice-aggregate-line c = search needs

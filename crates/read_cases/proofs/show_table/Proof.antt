@@ -1,6 +1,6 @@
 -- `show_table` is safe and ends: it counts the transactions.
 use Prim.Native.Nat.{_-_, _≤_}
-use native.Mathlib.Omega.{arith}
+use borrow.Author.Needs.{needs}
 use Rattle.read_cases.proofs.show_table.Statement.{statement}
 use Rattle.read_cases.proofs.show_table.Tie as tie
 
@@ -11,28 +11,31 @@ abbrev μ-loop : tie.MeasureT-loop
 μ-loop row count u₀ u = count - u
 
 show-header-requires : tie.Need-show-header-requires Inv-loop μ-loop
-show-header-requires c κs = tt
+show-header-requires c κs = search needs
 
 transactions-requires : tie.Need-transactions-requires Inv-loop μ-loop
-transactions-requires c κs = tt
+transactions-requires c κs = search needs
+
+index-requires : tie.Need-index-requires Inv-loop μ-loop
+index-requires c κs = search needs
 
 loop-holds : tie.Need-loop-holds Inv-loop μ-loop
-loop-holds c = omega arith
+loop-holds c = search needs
 
 show-transaction-requires : tie.Need-show-transaction-requires Inv-loop μ-loop
-show-transaction-requires c κs = tt
+show-transaction-requires c κs = search needs
 
 add-u : tie.Need-add-u Inv-loop μ-loop
-add-u c = omega arith
+add-u c = search needs
 
 loop-less : tie.Need-loop-less Inv-loop μ-loop
-loop-less c = omega arith
+loop-less c = search needs
 
 loop-again : tie.Need-loop-again Inv-loop μ-loop
-loop-again c = omega arith
+loop-again c = search needs
 
 returns : tie.Need-returns Inv-loop μ-loop
-returns c = tt
+returns c = search needs
 
 pub show-table-spec : {M : Type 1} → statement M
 show-table-spec =
@@ -42,6 +45,7 @@ show-table-spec =
     μ-loop
     show-header-requires
     transactions-requires
+    index-requires
     loop-holds
     show-transaction-requires
     add-u

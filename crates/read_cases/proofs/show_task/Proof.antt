@@ -1,47 +1,44 @@
 -- `show_task` is safe and ends: it counts the modes.
 use Prim.Native.Nat.{_-_, _≤_}
-use native.Mathlib.Omega.{arith}
+use borrow.Author.Needs.{needs}
 use Rattle.read_cases.proofs.show_task.Statement.{statement}
 use Rattle.read_cases.proofs.show_task.Tie as tie
 
 abbrev Inv-loop : tie.InvT-loop
-Inv-loop row u j count m₀ m = m ≤ count
+Inv-loop row k modes m₀ t5 m = m ≤ modes
 
 abbrev μ-loop : tie.MeasureT-loop
-μ-loop row u j count m₀ m = count - m
+μ-loop row k modes m₀ t5 m = modes - m
 
 show-fields-requires : tie.Need-show-fields-requires Inv-loop μ-loop
-show-fields-requires c κs = tt
-
-modes-requires : tie.Need-modes-requires Inv-loop μ-loop
-modes-requires c κs = tt
+show-fields-requires c κs = search needs
 
 loop-holds : tie.Need-loop-holds Inv-loop μ-loop
-loop-holds c = omega arith
+loop-holds c = search needs
 
-cast-time : tie.Need-cast-time Inv-loop μ-loop
-cast-time c = omega arith
+slice-aggregate-word : tie.Need-slice-aggregate-word Inv-loop μ-loop
+slice-aggregate-word c = search needs
 
 time-requires : tie.Need-time-requires Inv-loop μ-loop
-time-requires c κs = tt
+time-requires c κs = search needs
 
-show-time-requires : tie.Need-show-time-requires Inv-loop μ-loop
-show-time-requires c κs = tt
+word-requires : tie.Need-word-requires Inv-loop μ-loop
+word-requires c κs = search needs
 
 add-m : tie.Need-add-m Inv-loop μ-loop
-add-m c = omega arith
+add-m c = search needs
 
 loop-less : tie.Need-loop-less Inv-loop μ-loop
-loop-less c = omega arith
+loop-less c = search needs
 
 loop-again : tie.Need-loop-again Inv-loop μ-loop
-loop-again c = omega arith
+loop-again c = search needs
 
 end-line-requires : tie.Need-end-line-requires Inv-loop μ-loop
-end-line-requires c κs = tt
+end-line-requires c κs = search needs
 
 returns : tie.Need-returns Inv-loop μ-loop
-returns c = omega arith
+returns c = search needs
 
 pub show-task-spec : {M : Type 1} → statement M
 show-task-spec =
@@ -50,11 +47,10 @@ show-task-spec =
     Inv-loop
     μ-loop
     show-fields-requires
-    modes-requires
     loop-holds
-    cast-time
+    slice-aggregate-word
     time-requires
-    show-time-requires
+    word-requires
     add-m
     loop-less
     loop-again

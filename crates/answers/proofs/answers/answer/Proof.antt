@@ -6,17 +6,17 @@ use denote.Ref.{now}
 use borrow.Author.Needs.{needs}
 use Rattle.row.specs.Row.{tableOf}
 use Rattle.periods.specs.Charge.{imposed}
+use Rattle.analysis.specs.Answer.{Answer}
 use Rattle.analysis.specs.Walk.{answer}
-use Rattle.answers.specs.declared.answers.TaskAnswer.{TaskAnswer}
 use Rattle.answers.specs.declared.walk.Walked.{Walked}
-use Rattle.answers.specs.Answered.{answered}
+use Rattle.told.specs.Answered.{meant}
 use Rattle.answers.proofs.Answered.{answerFor, overload-answer, walk-answer, walk-bound-most}
 use Rattle.answers.proofs.answers.answer.Statement.{statement}
 use Rattle.answers.proofs.answers.answer.Tie as tie
 
 -- the answer of the definitions
-abbrev wanted : tie.Start → TaskAnswer
-wanted x = answered (answer imposed (tableOf (now (x .args .row))) (x .args .s .u) (x .args .s .a) (x .args .budget))
+abbrev wanted : tie.Start → Answer
+wanted x = answer imposed (tableOf (now (x .args .row))) (x .args .s .u) (x .args .s .a) (x .args .budget)
 
 is-overload-requires : tie.Need-is-overload-requires
 is-overload-requires c κs = search needs
@@ -24,7 +24,7 @@ is-overload-requires c κs = search needs
 returns : tie.Need-returns
 returns c =
     let x = c .before .before .args in
-    sym (overload-answer (tableOf (now (x .row))) (x .s .u) (x .s .a) (x .budget) (sym (c .before .is-overload .ensures) ∙ c .if1 .taken))
+    overload-answer (tableOf (now (x .row))) (x .s .u) (x .s .a) (x .budget) (sym (c .before .is-overload .ensures) ∙ c .if1 .taken)
 
 new-requires : tie.Need-new-requires
 new-requires c κs = search needs
@@ -39,7 +39,7 @@ enum-known-end c = search needs
 by-walk :
     (c : tie.After-modes) (w : Walked)
     → c .modes .result ≡ w
-    → wanted (c .before .before .before .before) ≡ answerFor (c .before .before .before .before .args .budget) w
+    → meant (answerFor (c .before .before .before .before .args .budget) w) ≡ wanted (c .before .before .before .before)
 by-walk c w e =
     let x = c .before .before .before .before .args in
     walk-answer (tableOf (now (x .row))) (x .s .u) (x .s .a) (x .budget)
@@ -62,13 +62,13 @@ enum-told : tie.Need-enum-told
 enum-told c = search needs
 
 returns-2 : tie.Need-returns-2
-returns-2 c = sym (by-walk (c .before .before .before .before) _ (c .before .before .end .given .1))
+returns-2 c = by-walk (c .before .before .before .before) _ (c .before .before .end .given .1)
 
 returns-3 : tie.Need-returns-3
-returns-3 c = sym (by-walk (c .before .before .before) _ (c .before .used .given .1))
+returns-3 c = by-walk (c .before .before .before) _ (c .before .used .given .1)
 
 returns-4 : tie.Need-returns-4
-returns-4 c = sym (by-walk (c .before .before) _ (c .enum-told .given .1))
+returns-4 c = by-walk (c .before .before) _ (c .enum-told .given .1)
 
 pub answer-spec : {M : Type 1} → statement M
 answer-spec =

@@ -10,8 +10,9 @@ use Rattle.periods.specs.Charge.{imposed}
 use Rattle.analysis.specs.Answer.{cells}
 use Rattle.analysis.specs.Walk.{answer}
 use Rattle.answers.specs.Work.{Chosen}
-use Rattle.answers.specs.Answered.{answered, written, cellsFor}
-use Rattle.answers.proofs.Answered.{answered-cells}
+use Rattle.told.specs.Answered.{cellsMeant}
+use Rattle.told.specs.Told.{Owed}
+use Rattle.told.proofs.Told.{owed}
 use Rattle.answers.proofs.answers.task_cells.Statement.{statement}
 use Rattle.answers.proofs.answers.task_cells.Tie as tie
 
@@ -50,12 +51,20 @@ returns c =
     let tab = tableOf (now (t .before .args .table)) in
     let budget = t .before .args .budget in
     let table = l .link .ensures .1 .0 ∙ w .weigh .ensures .1 .0 ∙ t .before .pre .1 .1 .0 in
-    let is : c .cells .result ≡ written (cells (deadline tab (s .u) (s .a)) (answer imposed tab (s .u) (s .a) budget)) =
+    let named = t .task .ensures in
+    let is : cellsMeant (c .cells .result) ≡ cells (deadline tab (s .u) (s .a)) (answer imposed tab (s .u) (s .a) budget) =
     c .cells .ensures
-    ∙ ap₂ cellsFor (c .before .deadline .ensures ∙ rw (← (t .task .ensures .numbered)) (read-deadline (t .before .pre .0) (t .task .ensures .chosen .isTask)))
-    (y .answer .ensures ∙ ap (λ (x : Table). answered (answer imposed x (s .u) (s .a) budget)) table)
-    ∙ answered-cells _ _ in
-    (record { s = s; isSubjectAt = t .task .ensures; is = is }, (l .link .ensures .0, table))
+    ∙ ap₂ cells (c .before .deadline .ensures ∙ rw (← (named .numbered)) (read-deadline (t .before .pre .0) (named .chosen .isTask)))
+    (y .answer .ensures ∙ ap (λ (x : Table). answer imposed x (s .u) (s .a) budget) table) in (
+      record {
+        u = s .u;
+        a = s .a;
+        isTask = named .chosen .isTask;
+        numbered = named .numbered;
+        owed = subst (Owed tab (s .u) (s .a) budget) (sym is) (owed (t .before .pre .0 .kept) (named .chosen .isTask) budget);
+      },
+      (l .link .ensures .0, table),
+    )
 
 pub task-cells-spec : {M : Type 1} → statement M
 task-cells-spec =

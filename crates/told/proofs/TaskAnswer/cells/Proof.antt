@@ -4,10 +4,10 @@ use mathlib.Core.Path.{sym, ap}
 use native.Mathlib.Omega.{arith}
 use borrow.Author.Needs.{needs}
 use Rattle.analysis.specs.Answer.{cells}
-use Rattle.answers.specs.Answered.{cellsFor, meant}
-use Rattle.answers.proofs.Answered.{kept-cells, late-cells}
-use Rattle.answers.proofs.answers.TaskAnswer.cells.Statement.{statement}
-use Rattle.answers.proofs.answers.TaskAnswer.cells.Tie as tie
+use Rattle.told.specs.Answered.{meant}
+use Rattle.told.proofs.Answered.{kept-cells, late-cells}
+use Rattle.told.proofs.TaskAnswer.cells.Statement.{statement}
+use Rattle.told.proofs.TaskAnswer.cells.Tie as tie
 
 enum-known-self : tie.Need-enum-known-self
 enum-known-self c = search needs
@@ -22,26 +22,28 @@ enum-known-self-3 : tie.Need-enum-known-self-3
 enum-known-self-3 c = search needs
 
 returns : tie.Need-returns
+unfolding meant
 returns c =
     let x = c .before .before in
     rw (x .self .given .1) (sym (kept-cells (x .self .given .0 .0) (x .self .given .0 .1 .0) (x .before .before .args .deadline) (omega arith)))
 
 returns-2 : tie.Need-returns-2
+unfolding meant
 returns-2 c =
     let x = c .before .before in
     rw (x .self .given .1) (sym (late-cells (x .self .given .0 .0) (x .self .given .0 .1 .0) (x .before .before .args .deadline) (omega arith)))
 
 returns-3 : tie.Need-returns-3
-unfolding cellsFor cells meant
-returns-3 c = sym (ap (cellsFor (c .before .before .args .deadline)) (c .enum-told .given .1))
+unfolding cells meant
+returns-3 c = rw (c .enum-told .given .1)
 
 returns-4 : tie.Need-returns-4
-unfolding cellsFor cells meant
-returns-4 c = sym (ap (cellsFor (c .before .before .before .args .deadline)) (c .before .self2 .given .1))
+unfolding cells meant
+returns-4 c = rw (c .before .self2 .given .1)
 
 returns-5 : tie.Need-returns-5
-unfolding cellsFor cells meant
-returns-5 c = sym (ap (cellsFor (c .before .before .before .args .deadline)) (c .before .self3 .given .1))
+unfolding cells meant
+returns-5 c = rw (c .before .self3 .given .1)
 
 pub cells-spec : {M : Type 1} → statement M
 cells-spec =

@@ -1,12 +1,12 @@
--- What the contracts say of document 01's sample S and of the empty image: the one row that `cells` may leave, and the one
+-- What the contracts say of document 01's sample S and of the empty image: the cells that `cells` may leave, and the one
 -- number that the host may get.
 use mathlib.Core.Path.{_≡_, refl, sym, subst}
 use mathlib.Core.List.{List, [], _∷_}
-use Prim.Native.Nat.{ℕ, zero, suc, _≤_}
+use Prim.Native.Nat.{ℕ, zero, suc, _≤_, _<_}
 use native.Mathlib.Omega.{arith}
 use lib.ListN.{length, drop}
 use Rattle.table.specs.Table.{Table, IsTask, deadline}
-use Rattle.table.specs.Number.{number}
+use Rattle.table.specs.Number.{inAll, number}
 use Rattle.table.specs.Kept.{Kept}
 use Rattle.table.specs.Sample.{S}
 use Rattle.refusals.specs.declared.Answer.the-variants.{Refused}
@@ -22,11 +22,12 @@ use Rattle.analysis.specs.Walk.{answer}
 use Rattle.analysis.specs.Computing.{computing}
 use Rattle.analysis.proofs.Charges.{imposed-fair}
 use Rattle.analysis.proofs.Budget.{greater-budget}
-use Rattle.answers.specs.declared.Filled.{Filled}
-use Rattle.answers.specs.declared.Filled.the-variants as filled
-use Rattle.answers.specs.Told.{listed, Owed, FillsFrom, Fills, paired, RespondsFrom, Responds}
-use Rattle.answers.proofs.Told.{owed}
-use Rattle.answers.proofs.Agree.{written-joined, fills-unique, responds-unique}
+use Rattle.told.specs.declared.Filled.{Filled}
+use Rattle.told.specs.declared.Filled.the-variants as filled
+use Rattle.told.specs.Cells.{listed}
+use Rattle.told.specs.Told.{Owed, OwedAt, FillsFrom, Fills, paired, RespondsFrom, Responds}
+use Rattle.told.proofs.Told.{owed}
+use Rattle.told.proofs.Agree.{written-joined, fills-unique, responds-unique}
 
 -- the image of S
 abbrev pub imageS : List ℕ
@@ -71,14 +72,15 @@ module _ {budget : ℕ} (enough : 6 ≤ budget) where
   owed-S {u} {a} is e =
       subst (λ (x : Answer). Owed S u a budget (cells (deadline S u a) x)) (answer-S is e) (owed S-kept is budget)
 
-  each : (u a : ℕ) → IsTask S u a → Owed S u a budget (cellsS (number S u a))
+  owed-S-at : {u a R n : ℕ} → IsTask S u a → answer imposed S u a 6 ≡ bound R n → OwedAt S (number S u a) budget (cells (deadline S u a) (bound R n))
+  owed-S-at {u} {a} is e = record { u = u; a = a; isTask = is; numbered = refl; owed = owed-S is e }
+
+  each : (k : ℕ) → k < inAll S → OwedAt S k budget (cellsS k)
   unfolding computing cellsS cells
-  each zero zero is = owed-S is refl
-  each zero (suc zero) is = owed-S is refl
-  each zero (suc (suc a)) is = absurd (omega (arith, is .place))
-  each (suc zero) zero is = owed-S is refl
-  each (suc zero) (suc a) is = absurd (omega (arith, is .place))
-  each (suc (suc u)) a is = absurd (omega (arith, is .owner))
+  each zero l = owed-S-at {u = 0} {a = 0} (record { owner = omega arith; place = omega arith }) refl
+  each (suc zero) l = owed-S-at {u = 0} {a = 1} (record { owner = omega arith; place = omega arith }) refl
+  each (suc (suc zero)) l = owed-S-at {u = 1} {a = 0} last-S refl
+  each (suc (suc (suc k))) l = absurd (omega arith)
 
   -- document 01's listing of S, and then what was there
   S-from :
@@ -90,13 +92,13 @@ module _ {budget : ℕ} (enough : 6 ≤ budget) where
   S-from room (FillsFrom.short l e) = absurd (omega arith)
   S-from room (FillsFrom.done w) = (refl, written-joined S-kept w cellsS each)
 
-  pub S-row :
+  pub S-cells :
       {before after : List ℕ} {r : Filled}
       → 9 ≤ length before
       → Fills imageS budget before after r
       → (r ≡ filled.Done 3) × (after ≡ 0 ∷ 2 ∷ 3 ∷ 0 ∷ 7 ∷ 5 ∷ 20 ∷ 5 ∷ 6 ∷ drop 9 before)
-  S-row room (Fills.refused h e) = let z : _≡_ {A = ℕ} 0 1 = cc S-accepted in absurd (omega arith)
-  S-row {before} {after} {r} room (Fills.accepted ok f) =
+  S-cells room (Fills.refused h e) = let z : _≡_ {A = ℕ} 0 1 = cc S-accepted in absurd (omega arith)
+  S-cells {before} {after} {r} room (Fills.accepted ok f) =
       S-from room (subst (λ (tab : Table). FillsFrom tab budget before after r) S-table f)
 
   -- and the host's number for task 2
@@ -105,7 +107,7 @@ module _ {budget : ℕ} (enough : 6 ≤ budget) where
   S-number x = responds-unique x
       (Responds.accepted S-accepted
       (subst (λ (tab : Table). RespondsFrom tab 2 budget (paired 20 5)) (sym S-table)
-      (RespondsFrom.told {c = cellsS 2} last-S refl (each 1 0 last-S))))
+      (RespondsFrom.told (each 2 (omega arith)))))
 
 -- with a budget of 5 task 2 gets 23, 0
 pub S-short : {r : ℕ} → Responds imageS 2 5 r → r ≡ paired 23 0
@@ -113,14 +115,14 @@ unfolding computing cells
 S-short x = responds-unique x
     (Responds.accepted S-accepted
     (subst (λ (tab : Table). RespondsFrom tab 2 5 (paired 23 0)) (sym S-table)
-    (RespondsFrom.told last-S refl (owed S-kept last-S 5))))
+    (RespondsFrom.told (record { u = 1; a = 0; isTask = last-S; numbered = refl; owed = owed S-kept last-S 5 }))))
 
--- the empty image is refused with 1 at place 0, and leaves the row
-pub empty-row :
+-- the empty image is refused with 1 at place 0, and leaves every cell
+pub empty-cells :
     {budget : ℕ} {before after : List ℕ} {r : Filled}
     → Fills [] budget before after r
     → (r ≡ filled.Refused EndsInside 0) × (after ≡ before)
-empty-row x = fills-unique x (Fills.refused empty-refused refl)
+empty-cells x = fills-unique x (Fills.refused empty-refused refl)
 
 pub empty-number : {task budget r : ℕ} → Responds [] task budget r → r ≡ paired 1 0
 empty-number x = responds-unique x (Responds.refused empty-refused)

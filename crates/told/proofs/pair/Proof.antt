@@ -1,9 +1,8 @@
 -- `pair` puts two 32-bit numbers into one of 64 bits.
-use mathlib.Core.Path.{ap₂}
 use borrow.Author.Needs.{needs}
-use Rattle.answers.specs.Told.{paired}
-use Rattle.answers.proofs.pair.Statement.{statement}
-use Rattle.answers.proofs.pair.Tie as tie
+use Rattle.told.specs.Told.{paired}
+use Rattle.told.proofs.pair.Statement.{statement}
+use Rattle.told.proofs.pair.Tie as tie
 
 wide-requires : tie.Need-wide-requires
 wide-requires c κs = search needs
@@ -19,7 +18,7 @@ add-result c = search needs
 
 returns : tie.Need-returns
 unfolding paired
-returns c = ap₂ paired (c .before .wide .ensures) (c .wide2 .ensures)
+returns c = rw (c .before .wide .ensures, c .wide2 .ensures)
 
 pub pair-spec : {M : Type 1} → statement M
 pair-spec = tie.close (tie.spec wide-requires mul-result wide-requires-2 add-result returns)

@@ -1,0 +1,5 @@
+pub mod Cells
+pub mod Answered
+pub mod Told
+pub mod Agree
+pub mod Sample

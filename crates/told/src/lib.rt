@@ -1,0 +1,144 @@
+// What a caller is told: the cells of each task, what became of the cells that were lent, and the C host's number. Each code
+// is named here, and the cells of a task are counted here; how an answer is found is not known here.
+use refusals::Refusal;
+ghost use mathlib.Core.Path.{_≡_};
+ghost use lib.ListN.{length};
+ghost use Rattle.analysis.specs.Answer.{cells};
+ghost use Rattle.told.specs.Cells.{hasRoom, stored};
+ghost use Rattle.told.specs.Answered.{meant, cellsMeant};
+ghost use Rattle.told.specs.Told.{filledNumber, filledPlace, paired};
+
+// What became of the cells that a caller lent.
+pub enum Filled {
+    // That many tasks have their cells.
+    Done(usize),
+    // Refused, by document 01's number and place; every cell stays as it was.
+    Refused(Refusal, usize),
+}
+
+impl Filled {
+    pub fn number(self) -> u32
+        ensures { λ r. ⌜ r ≡ filledNumber self ⌝ }
+    {
+        match self {
+            Filled::Done(_) => 0,
+            Filled::Refused(refusal, _) => refusal.number(),
+        }
+    }
+
+    pub fn place(self) -> usize
+        ensures { λ r. ⌜ r ≡ filledPlace self ⌝ }
+    {
+        match self {
+            Filled::Done(_) => 0,
+            Filled::Refused(_, at) => at,
+        }
+    }
+}
+
+// What is found of one task.
+pub enum TaskAnswer {
+    // The bound, and the evaluations.
+    Bound(u32, u32),
+    Overload,
+    // The evaluations.
+    Beyond(u32),
+    Spent(u32),
+}
+
+impl TaskAnswer {
+    // The cells of a task with this deadline.
+    pub fn cells(self, deadline: u32) -> TaskCells
+        ensures { λ r. ⌜ cellsMeant r ≡ cells deadline (meant self) ⌝ }
+    {
+        match self {
+            TaskAnswer::Bound(bound, evaluations) => TaskCells {
+                code: if bound <= deadline {
+                    TaskCells::KEPT
+                } else {
+                    TaskCells::LATE
+                },
+                bound,
+                evaluations,
+            },
+            TaskAnswer::Overload => TaskCells {
+                code: TaskCells::OVERLOAD,
+                bound: TaskCells::NO_BOUND,
+                evaluations: 0,
+            },
+            TaskAnswer::Beyond(evaluations) => TaskCells {
+                code: TaskCells::BEYOND,
+                bound: TaskCells::NO_BOUND,
+                evaluations,
+            },
+            TaskAnswer::Spent(evaluations) => TaskCells {
+                code: TaskCells::SPENT,
+                bound: TaskCells::NO_BOUND,
+                evaluations,
+            },
+        }
+    }
+}
+
+// What a caller gets of one task: document 01's code, the bound or 0, and the evaluations.
+pub struct TaskCells {
+    pub code: u32,
+    pub bound: u32,
+    pub evaluations: u32,
+}
+
+impl TaskCells {
+    // How many, and where each stands, counted from the task's first cell.
+    pub const COUNT: usize = 3;
+
+    pub const CODE_CELL: usize = 0;
+
+    pub const BOUND_CELL: usize = 1;
+
+    pub const EVALUATIONS_CELL: usize = 2;
+
+    pub const KEPT: u32 = 0;
+
+    pub const LATE: u32 = 20;
+
+    pub const OVERLOAD: u32 = 21;
+
+    pub const BEYOND: u32 = 22;
+
+    pub const SPENT: u32 = 23;
+
+    // The bound cell for 21 to 23.
+    pub const NO_BOUND: u32 = 0;
+
+    // Whether so many cells are enough for so many tasks.
+    pub fn have_room(cells: usize, tasks: usize) -> bool
+        ensures { λ r. ⌜ r ≡ hasRoom cells tasks ⌝ }
+    {
+        tasks <= cells / TaskCells::COUNT
+    }
+
+    // Writes them as those of task number k; where the cells that were lent have no room for them, writes nothing.
+    pub fn put(self, cells: &mut [u32], k: usize)
+        ensures { λ _. ⌜ now (cells .exit) ≡ stored (now (cells .entry)) k (cellsMeant self) ⌝ }
+    {
+        if k < cells.len() / TaskCells::COUNT {
+            let at = TaskCells::COUNT * k;
+            cells[at + TaskCells::CODE_CELL] = self.code;
+            cells[at + TaskCells::BOUND_CELL] = self.bound;
+            cells[at + TaskCells::EVALUATIONS_CELL] = self.evaluations;
+        }
+    }
+}
+
+fn wide(x: u32) -> u64
+    ensures { λ r. ⌜ r ≡ x ⌝ }
+{
+    x as u64
+}
+
+// Code and bound, or number and place, in one number.
+pub fn pair(upper: u32, lower: u32) -> u64
+    ensures { λ r. ⌜ r ≡ paired upper lower ⌝ }
+{
+    wide(upper) * 4_294_967_296 + wide(lower)
+}
