@@ -19,9 +19,23 @@ pub struct Counts {
     pub runs: u64,
     pub jobs: u64,
     pub violations: u64,
+    /// The first violation in words, with its run.
+    pub first_violation: String,
     /// Tasks with a bound in a table that was played, and those of them whose bound some job took exactly.
     pub bounded: u64,
     pub attained: u64,
+}
+
+impl Counts {
+    /// Whether no bound was passed, and what is to be said of the runs.
+    pub fn told(&self, seed: u64) -> (bool, String) {
+        let Counts { tables, runs, jobs, violations, first_violation, bounded, attained } = self;
+        let text = format!(
+            "{first_violation}seed {seed}\ntables {tables}\nruns {runs}\njobs {jobs}\nviolations {violations}\n\
+             bounded tasks {bounded}\nbounds attained exactly {attained}\n"
+        );
+        (*violations == 0, text)
+    }
 }
 
 pub struct Settings {
@@ -35,7 +49,7 @@ const BUDGET: u32 = 20_000;
 /// Runs are no longer than this, in ticks after the instant 0.
 const LONGEST: i64 = 300;
 
-/// Tables are drawn until the runs are made, or until a table has a violation, of which the first is printed.
+/// Tables are drawn until the runs are made, or until a table has a violation, of which the first is told.
 pub fn simulate(settings: &Settings) -> Counts {
     let mut counts = Counts::default();
     let mut index = 0;
@@ -72,7 +86,7 @@ fn play_table(random: &mut Random, table: &Table, runs: u64, wide: bool, counts:
             if ticks > bound {
                 counts.violations += 1;
                 if counts.violations == 1 {
-                    print_violation(table, &run, response.task, ticks, bound);
+                    counts.first_violation = violation(table, &run, response.task, ticks, bound);
                 }
             }
         }
@@ -94,14 +108,16 @@ fn play_once(random: &mut Random, table: &Table, length: i64, wide: bool) -> (Ru
     (run, responses)
 }
 
-fn print_violation(table: &Table, run: &Run, task: usize, ticks: i64, bound: i64) {
-    println!("violation: task {task} took {ticks}, its bound is {bound}");
-    println!("image {}", hex(&draft::image(table)));
-    println!("modes {:?}, first events {:?}", run.plan.modes, run.plan.first_events);
-    for (number, jobs) in run.plan.jobs.iter().enumerate() {
-        println!("task {number}: {jobs:?}");
+/// A violation in words, with all of its run.
+fn violation(table: &Table, run: &Run, task: usize, ticks: i64, bound: i64) -> String {
+    let mut text = format!("violation: task {task} took {ticks}, its bound is {bound}\n");
+    let plan = &run.plan;
+    text += &format!("image {}\n", hex(&draft::image(table)));
+    text += &format!("modes {:?}, first events {:?}\n", plan.modes, plan.first_events);
+    for (number, jobs) in plan.jobs.iter().enumerate() {
+        text += &format!("task {number}: {jobs:?}\n");
     }
-    println!("processor from tick {}: {:?}", run.start, run.ticks);
+    text + &format!("processor from tick {}: {:?}\n", run.start, run.ticks)
 }
 
 /// A small table of a few tasks, with something of everything.
