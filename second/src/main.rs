@@ -122,7 +122,7 @@ fn run(command: &str, mut arguments: Arguments) -> Result<End, Trouble> {
             let wide = arguments.flag("--wide");
             let (runs, seed) = (arguments.number("--runs", None)?, arguments.number("--seed", None)?);
             arguments.end()?;
-            ended(simulate::simulate(&simulate::Settings { runs, seed, wide }).told(seed))
+            ended(simulate::small::simulate(&simulate::small::Settings { runs, seed, wide }).told(seed))
         }
         _ => Err(Trouble::Told(format!("there is no command {command}; second help lists them"))),
     }

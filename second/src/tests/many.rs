@@ -6,7 +6,7 @@ use crate::generate::tables::{table, KINDS};
 use crate::generate::{case, Case};
 use crate::image::read;
 use crate::random::Random;
-use crate::simulate::{simulate, Settings};
+use crate::simulate::small::{simulate, Settings};
 use crate::{draft, stream};
 use std::collections::BTreeSet;
 
