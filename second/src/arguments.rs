@@ -12,6 +12,10 @@ fn parsed<N: FromStr>(name: &str, text: Option<OsString>) -> Result<N, String> {
     number.ok_or(format!("{name} needs a number"))
 }
 
+pub fn needed(name: &str, number: Option<u64>) -> Result<u64, String> {
+    number.ok_or(format!("{name} is missing"))
+}
+
 impl Arguments {
     /// The first word. A `--help` behind it comes before it.
     pub fn command(&mut self) -> Result<String, String> {
@@ -33,14 +37,24 @@ impl Arguments {
         parsed(name, self.next())
     }
 
-    /// The number after `--name`, both of which are then gone; `default` if there is none.
-    pub fn number(&mut self, name: &str, default: Option<u64>) -> Result<u64, String> {
-        match self.rest.iter().position(|word| word == name) {
-            None => default.ok_or(format!("{name} is missing")),
-            Some(at) => {
-                self.rest.remove(at);
-                parsed(name, (at < self.rest.len()).then(|| self.rest.remove(at)))
-            }
+    /// The number after `--name`, both of which are then gone.
+    pub fn number_if_given(&mut self, name: &str) -> Result<Option<u64>, String> {
+        let Some(at) = self.rest.iter().position(|word| word == name) else { return Ok(None) };
+        self.rest.remove(at);
+        parsed(name, (at < self.rest.len()).then(|| self.rest.remove(at))).map(Some)
+    }
+
+    pub fn number(&mut self, name: &str) -> Result<u64, String> {
+        needed(name, self.number_if_given(name)?)
+    }
+
+    /// The next word if it is no option; `-` is none.
+    pub fn file(&mut self) -> Option<OsString> {
+        let is_option = |word: &OsString| word != "-" && word.as_encoded_bytes().starts_with(b"-");
+        if self.rest.first().is_some_and(is_option) {
+            None
+        } else {
+            self.next()
         }
     }
 

@@ -54,13 +54,13 @@ impl Display for Counts {
     }
 }
 
-/// Whether no case differs, and what is to be said of it.
-pub fn compare(plan: &Plan) -> io::Result<(bool, String)> {
+/// Whether no case differs, and what is to be said of it. `watch` gets the number of cases so far.
+pub fn compare(plan: &Plan, watch: &mut dyn FnMut(u64)) -> io::Result<(bool, String)> {
     let mut counts = Counts::default();
     let mut from = 0;
     while from < plan.cases {
         let to = (from + plan.batch).min(plan.cases);
-        if let Some(difference) = batch(plan, from, to, &mut counts)? {
+        if let Some(difference) = batch(plan, from, to, &mut counts, watch)? {
             return Ok((false, difference));
         }
         from = to;
@@ -69,7 +69,13 @@ pub fn compare(plan: &Plan) -> io::Result<(bool, String)> {
 }
 
 /// The first difference in the cases from..to.
-fn batch(plan: &Plan, from: u64, to: u64, counts: &mut Counts) -> io::Result<Option<String>> {
+fn batch(
+    plan: &Plan,
+    from: u64,
+    to: u64,
+    counts: &mut Counts,
+    watch: &mut dyn FnMut(u64),
+) -> io::Result<Option<String>> {
     let cases: Vec<Case> = (from..to).map(|index| case(plan.seed, index)).collect();
     let theirs = run(&plan.program, cases.iter().flat_map(stream::encoded).collect())?;
     let mut lines = theirs.split_inclusive(|&byte| byte == b'\n');
@@ -88,6 +94,7 @@ fn batch(plan: &Plan, from: u64, to: u64, counts: &mut Counts) -> io::Result<Opt
             )));
         }
         counts.add(&ours);
+        watch(index + 1);
     }
     Ok(lines.next().map(|_| {
         let last = to - 1;

@@ -9,6 +9,7 @@ mod draft;
 mod generate;
 mod image;
 mod interference;
+mod progress;
 mod random;
 mod simulate;
 mod stream;
@@ -16,9 +17,12 @@ mod table;
 #[cfg(test)]
 mod tests;
 
-use arguments::Arguments;
+use arguments::{needed, Arguments};
 use interference::Charging;
+use progress::Progress;
+use std::ffi::OsStr;
 use std::fmt::Display;
+use std::fs::File;
 use std::io::{self, BufWriter, Read, Write};
 use std::process::ExitCode;
 use table::Table;
@@ -32,8 +36,11 @@ const HELP: &str = "usage:
   second compare --cases N --seed S [--batch K] --program COMMAND...
                                                compare COMMAND's lines with our own
   second simulate --runs N --seed S [--wide]   play legal runs of random small tables against the bounds
+  second simulate FILE [--runs N] [--seed S] [--wide]
+                                               play legal runs of the table in FILE (- is stdin): the longest
+                                               response of each task beside its bound
   second help                                  this text
-status: 0 all is well, 1 a difference or a violation, 3 trouble
+status: 0 all is well, 1 a difference or a violation, 2 a refused FILE, 3 trouble
 ";
 
 /// How a command ends that had no trouble.
@@ -42,6 +49,8 @@ enum End {
     Well = 0,
     /// A difference or a violation.
     Fault = 1,
+    /// The image is no table.
+    Refused = 2,
 }
 
 /// Why a command could not be carried out.
@@ -105,27 +114,67 @@ fn run(command: &str, mut arguments: Arguments) -> Result<End, Trouble> {
             answer_stream()
         }
         "generate" => {
-            let (cases, seed) = (arguments.number("--cases", None)?, arguments.number("--seed", None)?);
+            let (cases, seed) = (arguments.number("--cases")?, arguments.number("--seed")?);
             arguments.end()?;
             generate_stream(cases, seed)
         }
         "compare" => {
             let program = arguments.program()?;
-            let (cases, seed) = (arguments.number("--cases", None)?, arguments.number("--seed", None)?);
-            let batch = arguments.number("--batch", Some(1000))?.max(1);
+            let (cases, seed) = (arguments.number("--cases")?, arguments.number("--seed")?);
+            let batch = arguments.number_if_given("--batch")?.unwrap_or(1000).max(1);
             arguments.end()?;
             let name = program[0].to_string_lossy().into_owned();
             let plan = compare::Plan { cases, seed, batch, program };
-            ended(compare::compare(&plan).map_err(with(name))?)
+            let mut progress = Progress::on_terminal();
+            let compared = compare::compare(&plan, &mut |done| progress.show("cases", done, cases));
+            drop(progress);
+            ended(compared.map_err(with(name))?)
         }
         "simulate" => {
             let wide = arguments.flag("--wide");
-            let (runs, seed) = (arguments.number("--runs", None)?, arguments.number("--seed", None)?);
+            let (runs, seed) = (arguments.number_if_given("--runs")?, arguments.number_if_given("--seed")?);
+            let file = arguments.file();
             arguments.end()?;
-            ended(simulate::small::simulate(&simulate::small::Settings { runs, seed, wide }).told(seed))
+            match file {
+                Some(file) => simulate_table(&file, runs, seed.unwrap_or(1), wide),
+                None => simulate_small(needed("--runs", runs)?, needed("--seed", seed)?, wide),
+            }
         }
         _ => Err(Trouble::Told(format!("there is no command {command}; second help lists them"))),
     }
+}
+
+fn simulate_small(runs: u64, seed: u64, wide: bool) -> Result<End, Trouble> {
+    use simulate::small::{simulate, Settings};
+    let mut progress = Progress::on_terminal();
+    let counts = simulate(&Settings { runs, seed, wide }, &mut |done| progress.show("runs", done, runs));
+    drop(progress);
+    ended(counts.told(seed))
+}
+
+fn simulate_table(file: &OsStr, runs: Option<u64>, seed: u64, wide: bool) -> Result<End, Trouble> {
+    use simulate::given::{analysed, extent, simulate, told, Settings};
+    let image = if file == "-" {
+        image_from_stdin()?
+    } else {
+        File::open(file).and_then(image_from).map_err(with(file.to_string_lossy()))?
+    };
+    let table = match image::read(&image) {
+        Ok(table) => table,
+        Err(refusal) => {
+            print(&answer::refused(refusal))?;
+            return Ok(End::Refused);
+        }
+    };
+    let mut progress = Progress::on_terminal();
+    let tasks = table.numbered().len() as u64;
+    let row = analysed(&table, answer::PROGRAM_BUDGET, &mut |done| progress.show("tasks analysed", done, tasks));
+    let extent = extent(&table, &row);
+    let runs = runs.unwrap_or(extent.runs);
+    let settings = Settings { size: extent.size, runs, seed, wide };
+    let seen = simulate(&table, &row, &settings, &mut |done| progress.show("runs", done, runs));
+    drop(progress);
+    ended(told(&table, &row, &seen, seed))
 }
 
 /// Writes what was found; true says that all is well.

@@ -39,6 +39,10 @@ fn what_cannot_be_carried_out_is_told_with_status_3() {
         (&["generate", "--cases", "many", "--seed", "1"], "--cases needs a number"),
         (&["compare", "--cases", "1", "--seed", "1"], "--program is missing"),
         (&["compare", "--cases", "1", "--seed", "1", "--program", "/no/program"], "/no/program: "),
+        (&["simulate", "/no/file"], "/no/file: "),
+        (&["simulate", "/"], "/: "),
+        (&["simulate", "--seed", "1"], "--runs is missing"),
+        (&["simulate", "--narrow"], "what is --narrow?"),
     ];
     for (words, told) in cases {
         let output = output(words);
@@ -93,12 +97,59 @@ fn a_program_that_answers_otherwise_is_a_difference() {
     assert!(text(&other.stdout).starts_with("difference at seed 1 case 0 "));
 }
 
+/// The one-task image that document 01 prints.
+fn image() -> Vec<u8> {
+    [&[0x10, 0, 0, 0xA0, 0x40, 0, 2, 0x84, 0x20][..], &[0; 11], &[0x50, 0x28, 0, 0, 0x18]].concat()
+}
+
+fn output_for(words: &[&str], input: &[u8]) -> Output {
+    let mut child = second(words).stdin(Stdio::piped()).stdout(Stdio::piped()).spawn().unwrap();
+    child.stdin.take().unwrap().write_all(input).unwrap();
+    child.wait_with_output().unwrap()
+}
+
+/// A file that holds these bytes.
+fn file(name: &str, bytes: &[u8]) -> String {
+    let path = format!("{}/{name}", env!("CARGO_TARGET_TMPDIR"));
+    std::fs::write(&path, bytes).unwrap();
+    path
+}
+
 #[test]
 fn an_image_on_standard_input_is_listed() {
-    let image = [&[0x10, 0, 0, 0xA0, 0x40, 0, 2, 0x84, 0x20][..], &[0; 11], &[0x50, 0x28, 0, 0, 0x18]].concat();
-    let mut child = second(&["list"]).stdin(Stdio::piped()).stdout(Stdio::piped()).spawn().unwrap();
-    child.stdin.take().unwrap().write_all(&image).unwrap();
-    let output = child.wait_with_output().unwrap();
+    let output = output_for(&["list"], &image());
     assert_eq!(text(&output.stdout), "task code bound evaluations\n0 0 3 3\n");
     assert_eq!(output.status.code(), Some(0));
+}
+
+#[test]
+fn runs_of_a_file_show_the_longest_response_beside_the_bound() {
+    let file = file("one task.table", &image());
+    let played = output(&["simulate", &file, "--runs", "20", "--seed", "3"]);
+    assert_eq!(played.status.code(), Some(0));
+    assert_eq!(text(&played.stdout).lines().nth(1), Some("   0    0        10         3         3"));
+    assert!(text(&played.stdout).contains("\nseed 3\nruns 20\n"));
+    let other_order = output(&["simulate", "--seed", "3", "--runs", "20", &file]);
+    assert_eq!(other_order.stdout, played.stdout);
+    let from_input = output_for(&["simulate", "-", "--runs", "20", "--seed", "3"], &image());
+    assert_eq!(from_input.stdout, played.stdout);
+    let by_default = output(&["simulate", &file, "--wide"]);
+    assert_eq!(by_default.status.code(), Some(0));
+    assert!(text(&by_default.stdout).contains("\nseed 1\nruns 10000\n"));
+}
+
+#[test]
+fn a_refused_file_ends_with_status_2() {
+    let output = output(&["simulate", &file("cut.table", &image()[..9])]);
+    assert_eq!(text(&output.stdout), "refused 1 67\n");
+    assert_eq!(output.status.code(), Some(2));
+}
+
+/// The program takes longer than a terminal has to wait for a line.
+#[test]
+fn a_log_has_no_progress() {
+    let slow = ["sh", "-c", "sleep 0.8; exec \"$0\" answer", env!("CARGO_BIN_EXE_second")];
+    let output = output(&[&["compare", "--cases", "2", "--seed", "1", "--program"], &slow[..]].concat());
+    assert_eq!(text(&output.stderr), "");
+    assert!(text(&output.stdout).starts_with("seed 1: 2 cases, no difference\n"));
 }

@@ -1,5 +1,6 @@
-//! Legal runs against the bounds.
+//! Legal runs against the bounds: of random small tables, or of one given table.
 
+pub mod given;
 pub mod legal;
 pub mod plan;
 pub mod play;
@@ -38,7 +39,7 @@ fn play_once(random: &mut Random, table: &Table, draw: &Draw) -> (Run, Vec<Respo
     (run, responses)
 }
 
-/// A violation in words, with its run up to then. A job is told as (event, ready, need).
+/// A violation in words, with its run up to then.
 fn violation(table: &Table, run: &Run, response: &Response, bound: i64) -> String {
     let Response { task, event, until, .. } = response;
     let least = if response.is_finished { "" } else { "at least " };
@@ -47,7 +48,8 @@ fn violation(table: &Table, run: &Run, response: &Response, bound: i64) -> Strin
         format!("violation: task {task} took {least}{ticks} from its event at {event}, its bound is {bound}\n");
     let plan = &run.plan;
     let _ = writeln!(text, "image {}", hex(&draft::image(table)));
-    let _ = writeln!(text, "modes {:?}, first events {:?}", plan.modes, plan.first_events);
+    let _ =
+        writeln!(text, "modes {:?}, first events {:?}; jobs as (event, ready, need)", plan.modes, plan.first_events);
     for (number, row) in plan.jobs.iter().enumerate() {
         let came = row.iter().take_while(|job| job.ready < *until);
         let jobs: Vec<String> = came.map(|job| format!(" ({}, {}, {})", job.event, job.ready, job.need)).collect();

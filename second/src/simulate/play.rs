@@ -76,21 +76,27 @@ impl State<'_> {
         }
     }
 
-    /// Whether the choice would take ticks from the stretch of task a.
-    fn takes(&self, choice: Option<usize>, a: usize) -> bool {
-        choice.is_none_or(|j| self.tasks[j].priority < self.tasks[a].priority)
+    /// Idling counts as less urgent than any work.
+    fn priority(&self, choice: Option<usize>) -> i64 {
+        choice.map_or(-1, |j| self.tasks[j].priority)
     }
 
-    /// Of each task from whose stretch the choice would take ticks, what is left of its B; the least.
-    fn left_to_take(&self, pending: &Pending, choice: Option<usize>) -> Option<i64> {
-        let is_taken = |a: &usize| self.is_stretch(pending, *a) && self.takes(choice, *a);
-        (0..self.tasks.len()).filter(is_taken).map(|a| self.tasks[a].blocking - self.taken[a]).min()
+    /// Whether the choice would take ticks from the stretch of task a.
+    fn takes(&self, choice: Option<usize>, a: usize) -> bool {
+        self.priority(choice) < self.tasks[a].priority
+    }
+
+    /// The least priority of an allowed choice: one below would take from a stretch whose B is used up.
+    fn least_allowed(&self, pending: &Pending) -> i64 {
+        let is_used_up = |a: &usize| self.is_stretch(pending, *a) && self.taken[*a] == self.tasks[*a].blocking;
+        (0..self.tasks.len()).filter(is_used_up).map(|a| self.tasks[a].priority).max().unwrap_or(-1)
     }
 
     fn choose(&self, random: &mut Random, chooser: Chooser, pending: &Pending) -> Option<usize> {
         let mut choices: Vec<Option<usize>> = pending.tasks.iter().map(|&j| Some(j)).collect();
         choices.push(None);
-        choices.retain(|&choice| self.left_to_take(pending, choice).is_none_or(|left| left > 0));
+        let least = self.least_allowed(pending);
+        choices.retain(|&choice| self.priority(choice) >= least);
         let target = match chooser {
             Chooser::Random => return random.pick(&choices),
             Chooser::Against(a) | Chooser::LateAgainst(a) => a,
@@ -116,8 +122,9 @@ impl State<'_> {
     /// How long the choice may last at most: nothing becomes ready or finishes before that, and no B is passed.
     fn longest(&self, pending: &Pending, choice: Option<usize>, next_change: i64) -> i64 {
         let need = choice.map_or(next_change, |task| self.current[task].1);
-        let left = self.left_to_take(pending, choice).unwrap_or(next_change);
-        next_change.min(need).min(left)
+        let is_taken = |a: &usize| self.is_stretch(pending, *a) && self.takes(choice, *a);
+        let left = (0..self.tasks.len()).filter(is_taken).map(|a| self.tasks[a].blocking - self.taken[a]).min();
+        next_change.min(need).min(left.unwrap_or(next_change))
     }
 
     /// The piece goes by.

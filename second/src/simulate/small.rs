@@ -45,8 +45,9 @@ const LONGEST: i64 = 300;
 /// More than the jobs before the instant 0 can be in so small a table.
 const JOBS_BEFORE: i64 = 1000;
 
-/// Tables are drawn until the runs are made, or until a table has a violation, of which the first is told.
-pub fn simulate(settings: &Settings) -> Counts {
+/// Tables are drawn until the runs are made, or until a table has a violation, of which the first is told. `watch` gets
+/// the number of runs so far.
+pub fn simulate(settings: &Settings, watch: &mut dyn FnMut(u64)) -> Counts {
     let mut counts = Counts::default();
     let mut index = 0;
     while counts.runs < settings.runs && counts.violations == 0 {
@@ -55,6 +56,7 @@ pub fn simulate(settings: &Settings) -> Counts {
         let runs = RUNS_OF_A_TABLE.min(settings.runs - counts.runs);
         play_table(random, &table, runs, settings.wide, &mut counts);
         index += 1;
+        watch(counts.runs);
     }
     counts
 }

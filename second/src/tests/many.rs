@@ -81,7 +81,7 @@ fn a_stream_is_read_as_it_was_written() {
 #[test]
 fn legal_runs_keep_the_bounds() {
     for wide in [false, true] {
-        let counts = simulate(&Settings { runs: 2000, seed: 1, wide });
+        let counts = simulate(&Settings { runs: 2000, seed: 1, wide }, &mut |_| ());
         assert_eq!(counts.violations, 0);
         assert!(2 * counts.attained > counts.bounded, "the runs are hard on the bounds: {counts:?}");
     }
