@@ -92,9 +92,24 @@ fn a_table_of_long_periods_is_played_as_one_of_short_ones() {
     assert_eq!(seen(&table, &row, 30, false).longest, [2, 7, 5].map(|bound| finished(bound * times)));
 }
 
+/// Six transactions, in each of which one task of four is long: one start in 4096 is the worst for the task below.
+#[test]
+fn the_first_run_against_a_task_is_the_one_that_its_bound_comes_from() {
+    let long_last = |time: i64| {
+        let times = [(0, 1), (250, 1), (500, 1), (750, time)];
+        transaction(1000, times.map(|(offset, time)| task(offset, &[time], 9)).to_vec())
+    };
+    let mut transactions: Vec<Transaction> = (10..16).map(long_last).collect();
+    transactions.push(transaction(1000, vec![task(0, &[1], 1)]));
+    let table = Table { frame: 1000, transactions };
+    let row = row(&table);
+    assert_eq!(row[24].cells.bound, 10 + 11 + 12 + 13 + 14 + 15 + 1);
+    assert_eq!(seen(&table, &row, 25, false).longest[24], finished(76));
+}
+
 /// Of each table only as many runs are played as it has tasks.
 #[test]
-fn the_first_run_against_a_task_mostly_attains_its_bound() {
+fn most_bounds_of_small_tables_are_attained_in_the_first_runs_and_none_is_passed() {
     let (mut bounded, mut attained) = (0, 0);
     for index in 0..300 {
         let table = small::table(&mut Random::of(8, index));

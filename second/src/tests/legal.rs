@@ -81,7 +81,11 @@ fn a_record_that_leaves_ticks_out_is_seen() {
 
 #[test]
 fn a_job_that_is_left_out_or_comes_in_addition_is_seen() {
-    assert!(is_fault(|run| run.plan.jobs[2].truncate(1)));
+    assert!(is_fault(|run| {
+        // It is neither in the plan nor served.
+        run.plan.jobs[2].truncate(1);
+        run.pieces.iter_mut().rfind(|piece| piece.who == Some(2)).unwrap().who = None;
+    }));
     assert!(is_fault(|run| {
         let last = run.plan.jobs[2].last().unwrap().clone();
         run.plan.jobs[2].push(Job { event: last.event + 20, ready: last.ready + 20, ..last });
