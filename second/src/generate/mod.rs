@@ -70,15 +70,15 @@ fn budget(random: &mut Random, table: &Table) -> u32 {
     let has_ended = |cells: &&Cells| cells.code != 23;
     let needed = row.iter().filter(has_ended).map(|cells| cells.evaluations).max().unwrap_or(0);
     match random.within(1, 100) {
-        ..=4 => random.pick(&[0, 0, 1, 2]),
-        ..=8 => random.within(0, 12) as u32,
-        ..=15 => random.within(0, most as i64) as u32,
-        ..=30 => {
+        1..=4 => random.pick(&[0, 0, 1, 2]),
+        5..=8 => random.within(0, 12) as u32,
+        9..=15 => random.within(0, most as i64) as u32,
+        16..=30 => {
             let some = random.pick(&row).evaluations;
             around(random, some)
         }
-        ..=60 => around(random, needed),
-        ..=90 => random.within(needed as i64, 2 * needed as i64) as u32,
+        31..=60 => around(random, needed),
+        61..=90 => random.within(needed as i64, 2 * needed as i64) as u32,
         _ if row.iter().all(|cells| has_ended(&cells)) => random.pick(&[u32::MAX, u32::MAX - 1, 1 << 31, 1_000_000]),
         _ => most,
     }
