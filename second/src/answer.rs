@@ -1,6 +1,6 @@
 //! What a caller gets: cells, the host's number, the listing, one line for a case.
 
-use crate::bound::{analyse, Outcome};
+use crate::bound::{analyse, Outcome, Verdict};
 use crate::image::{read, Refusal};
 use crate::interference::{Charging, Fixed};
 use crate::table::Table;
@@ -23,7 +23,10 @@ pub const NO_TASK: u32 = 13;
 /// 'Codes: 0 bounded and bound ≤ D; 20 bounded, bound > D; 21 overload; 22 past the horizon; 23 budget spent. For 21 to
 /// 23 the bound cell is 0.'
 pub fn cells(fixed: &Fixed, charging: Charging, budget: u32) -> Cells {
-    let verdict = analyse(fixed, charging, budget);
+    cells_of(fixed, analyse(fixed, charging, budget))
+}
+
+pub fn cells_of(fixed: &Fixed, verdict: Verdict) -> Cells {
     let (code, bound) = match verdict.outcome {
         Outcome::Bounded(bound) if bound <= fixed.task().deadline => (0, bound),
         Outcome::Bounded(bound) => (20, bound),
@@ -62,7 +65,7 @@ pub fn host(image: &[u8], task: u32, budget: u32) -> u64 {
     }
 }
 
-fn refused(refusal: Refusal) -> String {
+pub fn refused(refusal: Refusal) -> String {
     format!("refused {} {}\n", refusal.number, refusal.place)
 }
 

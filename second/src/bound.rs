@@ -22,12 +22,14 @@ pub struct Verdict {
 /// What a walk does, in order, for those who want to watch it.
 #[derive(Clone, Copy, Debug, PartialEq, Eq)]
 pub enum Step {
+    /// Candidate c in a mode: what follows is of that.
+    Candidate { c: usize, mode: usize },
     /// One evaluation put `at` in and gave `value`.
     Evaluation { at: i64, value: i64 },
     /// A chain for L ended.
     BusyLength(i64),
     /// A chain for a job ended.
-    Response { job: i64, response: i64 },
+    Response { job: i64, completion: i64, response: i64 },
 }
 
 /// 'That count is handed on from chain to chain', and with it the greatest response so far.
@@ -62,6 +64,7 @@ impl Walk<'_> {
 
     /// One candidate of u in one mode: its L chain, then its jobs, lowest first.
     fn candidate(&mut self, fixed: &Fixed, charging: Charging, c: usize, mode: usize) -> Result<(), Outcome> {
+        (self.watch)(Step::Candidate { c, mode });
         let a = fixed.task();
         let period = fixed.own().period;
         let time = a.times[mode];
@@ -85,7 +88,7 @@ impl Walk<'_> {
             assert!(completion <= busy_length, "a completion never passes L");
             // 'Response of job p: w − (F + (p − 1)·T) + O, a signed number.'
             let response = completion - (own_phase + (job - 1) * period) + a.offset;
-            (self.watch)(Step::Response { job, response });
+            (self.watch)(Step::Response { job, completion, response });
             self.greatest = self.greatest.max(Some(response));
         }
         Ok(())

@@ -5,6 +5,8 @@ use crate::generate::{case, Case};
 use crate::image::Refusal;
 use crate::stream;
 use std::collections::BTreeMap;
+use std::ffi::OsString;
+use std::fmt::{self, Display};
 use std::io::{self, Read, Write};
 use std::process::{Command, Stdio};
 
@@ -12,7 +14,7 @@ pub struct Plan {
     pub cases: u64,
     pub seed: u64,
     pub batch: u64,
-    pub program: Vec<String>,
+    pub program: Vec<OsString>,
 }
 
 /// How often each answer came: refusals by case, codes by task.
@@ -37,36 +39,43 @@ impl Counts {
             }
         }
     }
+}
 
-    fn print(&self) {
+impl Display for Counts {
+    fn fmt(&self, out: &mut fmt::Formatter) -> fmt::Result {
         for (number, count) in &self.refused {
-            println!("refused {number}: {count} images");
+            writeln!(out, "refused {number}: {count} images")?;
         }
-        println!("accepted: {} images", self.accepted);
+        writeln!(out, "accepted: {} images", self.accepted)?;
         for (code, count) in &self.codes {
-            println!("code {code}: {count} tasks");
+            writeln!(out, "code {code}: {count} tasks")?;
         }
-        println!("evaluations: {}", self.evaluations);
+        writeln!(out, "evaluations: {}", self.evaluations)
     }
 }
 
-/// True if no case differs.
-pub fn compare(plan: &Plan) -> io::Result<bool> {
+/// Whether no case differs, and what is to be said of it. `watch` gets the number of cases so far.
+pub fn compare(plan: &Plan, watch: &mut dyn FnMut(u64)) -> io::Result<(bool, String)> {
     let mut counts = Counts::default();
     let mut from = 0;
     while from < plan.cases {
         let to = (from + plan.batch).min(plan.cases);
-        if !batch(plan, from, to, &mut counts)? {
-            return Ok(false);
+        if let Some(difference) = batch(plan, from, to, &mut counts, watch)? {
+            return Ok((false, difference));
         }
         from = to;
     }
-    println!("seed {}: {} cases, no difference", plan.seed, plan.cases);
-    counts.print();
-    Ok(true)
+    Ok((true, format!("seed {}: {} cases, no difference\n{counts}", plan.seed, plan.cases)))
 }
 
-fn batch(plan: &Plan, from: u64, to: u64, counts: &mut Counts) -> io::Result<bool> {
+/// The first difference in the cases from..to.
+fn batch(
+    plan: &Plan,
+    from: u64,
+    to: u64,
+    counts: &mut Counts,
+    watch: &mut dyn FnMut(u64),
+) -> io::Result<Option<String>> {
     let cases: Vec<Case> = (from..to).map(|index| case(plan.seed, index)).collect();
     let theirs = run(&plan.program, cases.iter().flat_map(stream::encoded).collect())?;
     let mut lines = theirs.split_inclusive(|&byte| byte == b'\n');
@@ -75,23 +84,26 @@ fn batch(plan: &Plan, from: u64, to: u64, counts: &mut Counts) -> io::Result<boo
         let line = line(&ours);
         let their_line = lines.next().unwrap_or(b"");
         if their_line != line.as_bytes() {
-            println!("difference at seed {} case {} budget {}", plan.seed, index, case.budget);
-            println!("image {}", hex(&case.image));
-            print!("second  {line}");
-            println!("program {}", String::from_utf8_lossy(their_line).trim_end_matches('\n'));
-            return Ok(false);
+            let their_line = String::from_utf8_lossy(their_line);
+            return Ok(Some(format!(
+                "difference at seed {} case {index} budget {}\nimage {}\nsecond  {line}program {}\n",
+                plan.seed,
+                case.budget,
+                hex(&case.image),
+                their_line.trim_end_matches('\n'),
+            )));
         }
         counts.add(&ours);
+        watch(index + 1);
     }
-    let rest = lines.next();
-    if rest.is_some() {
-        println!("difference at seed {} after case {}: the program prints more lines than cases", plan.seed, to - 1);
-    }
-    Ok(rest.is_none())
+    Ok(lines.next().map(|_| {
+        let last = to - 1;
+        format!("difference at seed {} after case {last}: the program prints more lines than cases\n", plan.seed)
+    }))
 }
 
 /// What the program prints for that input.
-fn run(program: &[String], input: Vec<u8>) -> io::Result<Vec<u8>> {
+fn run(program: &[OsString], input: Vec<u8>) -> io::Result<Vec<u8>> {
     let mut child =
         Command::new(&program[0]).args(&program[1..]).stdin(Stdio::piped()).stdout(Stdio::piped()).spawn()?;
     let mut stdin = child.stdin.take().expect("piped");
@@ -102,7 +114,7 @@ fn run(program: &[String], input: Vec<u8>) -> io::Result<Vec<u8>> {
     let _ = writer.join();
     let status = child.wait()?;
     if !status.success() {
-        eprintln!("second: the program ended with {status}");
+        let _ = writeln!(io::stderr(), "second: the program ended with {status}");
     }
     Ok(output)
 }

@@ -55,6 +55,14 @@ pub struct Fixed<'t> {
     pub a: usize,
 }
 
+/// The greatest charge of a transaction, and where it comes from.
+#[derive(Clone, Copy)]
+pub struct Greatest {
+    pub charge: i64,
+    pub mode: usize,
+    pub c: usize,
+}
+
 impl<'t> Fixed<'t> {
     pub fn own(&self) -> &'t Transaction {
         &self.table.transactions[self.u]
@@ -98,12 +106,20 @@ impl<'t> Fixed<'t> {
     /// 'For any other transaction take the greatest charge over its modes and its rivals as candidates, or 0 if it
     /// has none.'
     fn greatest_charge(&self, charging: Charging, v: usize, t: i64) -> i64 {
+        self.greatest(charging, v, t).map_or(0, |greatest| greatest.charge)
+    }
+
+    /// That charge, with the first mode and candidate that give it.
+    pub fn greatest(&self, charging: Charging, v: usize, t: i64) -> Option<Greatest> {
         let transaction = &self.table.transactions[v];
-        let mut greatest = 0;
+        let mut greatest: Option<Greatest> = None;
         for mode in 0..transaction.modes {
             for c in 0..transaction.tasks.len() {
                 if self.is_rival(v, c, mode) {
-                    greatest = greatest.max(self.charge(charging, v, c, mode, t));
+                    let charge = self.charge(charging, v, c, mode, t);
+                    if greatest.is_none_or(|so_far| charge > so_far.charge) {
+                        greatest = Some(Greatest { charge, mode, c });
+                    }
                 }
             }
         }

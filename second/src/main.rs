@@ -2,12 +2,14 @@
 //! program with. It takes no short cut: every phase, charge and chain is worked out as the document writes it.
 
 mod answer;
+mod arguments;
 mod bound;
 mod compare;
 mod draft;
 mod generate;
 mod image;
 mod interference;
+mod progress;
 mod random;
 mod simulate;
 mod stream;
@@ -15,11 +17,17 @@ mod table;
 #[cfg(test)]
 mod tests;
 
+use arguments::{needed, Arguments};
 use interference::Charging;
+use progress::Progress;
+use std::ffi::OsStr;
+use std::fmt::Display;
+use std::fs::File;
 use std::io::{self, BufWriter, Read, Write};
 use std::process::ExitCode;
+use table::Table;
 
-const USAGE: &str = "usage:
+const HELP: &str = "usage:
   second list                                  one image on stdin: the listing
   second whole                                 the same with the whole-job bound
   second host TASK BUDGET                      one image on stdin: the host's 64-bit number
@@ -27,134 +35,187 @@ const USAGE: &str = "usage:
   second generate --cases N --seed S           a stream of cases on stdout
   second compare --cases N --seed S [--batch K] --program COMMAND...
                                                compare COMMAND's lines with our own
-  second simulate --runs N --seed S [--wide]   play legal runs against the bounds";
+  second simulate --runs N --seed S [--wide]   play legal runs of random small tables against the bounds
+  second simulate FILE [--runs N] [--seed S] [--wide]
+                                               play legal runs of the table in FILE (- is stdin): the longest
+                                               response of each task beside its bound
+  second help                                  this text
+status: 0 all is well, 1 a difference or a violation, 2 a refused FILE, 3 trouble
+";
 
-/// The arguments after the subcommand, taken one by one.
-struct Arguments {
-    rest: Vec<String>,
+/// How a command ends that had no trouble.
+#[derive(Clone, Copy, Debug, PartialEq, Eq)]
+enum End {
+    Well = 0,
+    /// A difference or a violation.
+    Fault = 1,
+    /// The image is no table.
+    Refused = 2,
 }
 
-impl Arguments {
-    /// The number after `--name`, which is then gone; `default` if there is none.
-    fn number(&mut self, name: &str, default: Option<u64>) -> Result<u64, String> {
-        match self.rest.iter().position(|argument| argument == name) {
-            None => default.ok_or(format!("{name} is missing")),
-            Some(at) => {
-                self.rest.remove(at);
-                let text = if at < self.rest.len() { self.rest.remove(at) } else { String::new() };
-                text.parse().map_err(|_| format!("{name} needs a number"))
-            }
-        }
-    }
+/// Why a command could not be carried out.
+#[derive(Debug)]
+enum Trouble {
+    Told(String),
+    /// Nobody reads standard output any more.
+    Closed,
+}
 
-    fn flag(&mut self, name: &str) -> bool {
-        let at = self.rest.iter().position(|argument| argument == name);
-        at.map(|at| self.rest.remove(at)).is_some()
-    }
+const TROUBLE: u8 = 3;
 
-    /// Everything after `--program`.
-    fn program(&mut self) -> Result<Vec<String>, String> {
-        let at = self.rest.iter().position(|argument| argument == "--program");
-        let program = self.rest.split_off(at.ok_or("--program is missing")?);
-        if program.len() < 2 {
-            return Err("--program needs a command".into());
-        }
-        Ok(program[1..].to_vec())
+impl From<String> for Trouble {
+    fn from(told: String) -> Trouble {
+        Trouble::Told(told)
     }
+}
 
-    fn end(self) -> Result<(), String> {
-        self.rest.first().map_or(Ok(()), |argument| Err(format!("what is {argument}?")))
+/// Trouble with something that has a name.
+fn with(name: impl Display) -> impl Fn(io::Error) -> Trouble {
+    move |error| match error.kind() {
+        io::ErrorKind::BrokenPipe => Trouble::Closed,
+        _ => Trouble::Told(format!("{name}: {error}")),
     }
 }
 
 fn main() -> ExitCode {
-    let mut arguments = std::env::args().skip(1);
-    let command = arguments.next().unwrap_or_default();
-    match run(&command, Arguments { rest: arguments.collect() }) {
-        Ok(true) => ExitCode::SUCCESS,
-        Ok(false) => ExitCode::from(1),
-        Err(trouble) => {
-            eprintln!("second: {trouble}");
-            ExitCode::from(2)
+    let mut arguments = Arguments { rest: std::env::args_os().skip(1).collect() };
+    let end = match arguments.command() {
+        Err(told) => Err(told.into()),
+        Ok(command) => run(&command, arguments),
+    };
+    match end {
+        Ok(end) => ExitCode::from(end as u8),
+        Err(Trouble::Closed) => ExitCode::from(TROUBLE),
+        Err(Trouble::Told(told)) => {
+            let _ = writeln!(io::stderr(), "second: {told}");
+            ExitCode::from(TROUBLE)
         }
     }
 }
 
-/// True if all is well, false for a difference or a violation.
-fn run(command: &str, mut arguments: Arguments) -> Result<bool, String> {
-    let trouble = |error: io::Error| error.to_string();
+fn run(command: &str, mut arguments: Arguments) -> Result<End, Trouble> {
     match command {
+        "help" | "--help" | "-h" => {
+            arguments.end()?;
+            print(HELP)
+        }
         "list" | "whole" => {
             arguments.end()?;
             let charging = if command == "list" { Charging::Imposed } else { Charging::Released };
-            print!("{}", answer::listing(&image_from_stdin().map_err(trouble)?, charging));
-            Ok(true)
+            print(&answer::listing(&image_from_stdin()?, charging))
         }
         "host" => {
-            let numbers: Result<Vec<u32>, _> = arguments.rest.iter().map(|text| text.parse()).collect();
-            let Ok([task, budget]) = numbers.as_deref() else { return Err("host needs TASK and BUDGET".into()) };
-            println!("{}", answer::host(&image_from_stdin().map_err(trouble)?, *task, *budget));
-            Ok(true)
+            let (task, budget) = (arguments.next_number("TASK")?, arguments.next_number("BUDGET")?);
+            arguments.end()?;
+            print(&format!("{}\n", answer::host(&image_from_stdin()?, task, budget)))
         }
         "answer" => {
             arguments.end()?;
-            answer_stream().map_err(trouble)?;
-            Ok(true)
+            answer_stream()
         }
         "generate" => {
-            let (cases, seed) = (arguments.number("--cases", None)?, arguments.number("--seed", None)?);
+            let (cases, seed) = (arguments.number("--cases")?, arguments.number("--seed")?);
             arguments.end()?;
-            generate_stream(cases, seed).map_err(trouble)?;
-            Ok(true)
+            generate_stream(cases, seed)
         }
         "compare" => {
             let program = arguments.program()?;
-            let (cases, seed) = (arguments.number("--cases", None)?, arguments.number("--seed", None)?);
-            let batch = arguments.number("--batch", Some(1000))?.max(1);
+            let (cases, seed) = (arguments.number("--cases")?, arguments.number("--seed")?);
+            let batch = arguments.number_if_given("--batch")?.unwrap_or(1000).max(1);
             arguments.end()?;
-            compare::compare(&compare::Plan { cases, seed, batch, program }).map_err(trouble)
+            let name = program[0].to_string_lossy().into_owned();
+            let plan = compare::Plan { cases, seed, batch, program };
+            let mut progress = Progress::on_terminal();
+            let compared = compare::compare(&plan, &mut |done| progress.show("cases", done, cases));
+            drop(progress);
+            ended(compared.map_err(with(name))?)
         }
         "simulate" => {
             let wide = arguments.flag("--wide");
-            let (runs, seed) = (arguments.number("--runs", None)?, arguments.number("--seed", None)?);
+            let (runs, seed) = (arguments.number_if_given("--runs")?, arguments.number_if_given("--seed")?);
+            let file = arguments.file();
             arguments.end()?;
-            Ok(simulate_runs(&simulate::Settings { runs, seed, wide }))
+            match file {
+                Some(file) => simulate_table(&file, runs, seed.unwrap_or(1), wide),
+                None => simulate_small(needed("--runs", runs)?, needed("--seed", seed)?, wide),
+            }
         }
-        _ => Err(USAGE.into()),
+        _ => Err(Trouble::Told(format!("there is no command {command}; second help lists them"))),
     }
 }
 
-fn image_from_stdin() -> io::Result<Vec<u8>> {
+fn simulate_small(runs: u64, seed: u64, wide: bool) -> Result<End, Trouble> {
+    use simulate::small::{simulate, Settings};
+    let mut progress = Progress::on_terminal();
+    let counts = simulate(&Settings { runs, seed, wide }, &mut |done| progress.show("runs", done, runs));
+    drop(progress);
+    ended(counts.told(seed))
+}
+
+fn simulate_table(file: &OsStr, runs: Option<u64>, seed: u64, wide: bool) -> Result<End, Trouble> {
+    use simulate::given::{analysed, extent, simulate, told, Settings};
+    let image = if file == "-" {
+        image_from_stdin()?
+    } else {
+        File::open(file).and_then(image_from).map_err(with(file.to_string_lossy()))?
+    };
+    let table = match image::read(&image) {
+        Ok(table) => table,
+        Err(refusal) => {
+            print(&answer::refused(refusal))?;
+            return Ok(End::Refused);
+        }
+    };
+    let mut progress = Progress::on_terminal();
+    let tasks = table.numbered().len() as u64;
+    let row = analysed(&table, answer::PROGRAM_BUDGET, &mut |done| progress.show("tasks analysed", done, tasks));
+    let extent = extent(&table, &row);
+    let runs = runs.unwrap_or(extent.runs);
+    let settings = Settings { size: extent.size, runs, seed, wide };
+    let seen = simulate(&table, &row, &settings, &mut |done| progress.show("runs", done, runs));
+    drop(progress);
+    ended(told(&table, &row, &seen, seed))
+}
+
+/// Writes what was found; true says that all is well.
+fn ended((is_well, text): (bool, String)) -> Result<End, Trouble> {
+    print(&text)?;
+    Ok(if is_well { End::Well } else { End::Fault })
+}
+
+fn print(text: &str) -> Result<End, Trouble> {
+    let mut output = io::stdout().lock();
+    output.write_all(text.as_bytes()).and_then(|()| output.flush()).map_err(with("standard output"))?;
+    Ok(End::Well)
+}
+
+/// An image, and of a longer input no more than shows that it is longer.
+fn image_from(input: impl Read) -> io::Result<Vec<u8>> {
     let mut image = Vec::new();
-    io::stdin().lock().read_to_end(&mut image)?;
+    input.take(Table::LONGEST_IMAGE as u64 + 1).read_to_end(&mut image)?;
     Ok(image)
 }
 
-fn answer_stream() -> io::Result<()> {
+fn image_from_stdin() -> Result<Vec<u8>, Trouble> {
+    image_from(io::stdin().lock()).map_err(with("standard input"))
+}
+
+fn answer_stream() -> Result<End, Trouble> {
     let mut input = io::BufReader::new(io::stdin().lock());
     let mut output = BufWriter::new(io::stdout().lock());
-    while let Some(case) = stream::next(&mut input)? {
-        output.write_all(answer::line(&answer::answer(&case.image, case.budget)).as_bytes())?;
+    while let Some(case) = stream::next(&mut input).map_err(with("standard input"))? {
+        let line = answer::line(&answer::answer(&case.image, case.budget));
+        output.write_all(line.as_bytes()).map_err(with("standard output"))?;
     }
-    output.flush()
+    output.flush().map_err(with("standard output"))?;
+    Ok(End::Well)
 }
 
-fn generate_stream(cases: u64, seed: u64) -> io::Result<()> {
+fn generate_stream(cases: u64, seed: u64) -> Result<End, Trouble> {
     let mut output = BufWriter::new(io::stdout().lock());
     for index in 0..cases {
-        output.write_all(&stream::encoded(&generate::case(seed, index)))?;
+        output.write_all(&stream::encoded(&generate::case(seed, index))).map_err(with("standard output"))?;
     }
-    output.flush()
-}
-
-fn simulate_runs(settings: &simulate::Settings) -> bool {
-    let counts = simulate::simulate(settings);
-    println!("seed {}", settings.seed);
-    println!("tables {}", counts.tables);
-    println!("runs {}", counts.runs);
-    println!("jobs {}", counts.jobs);
-    println!("violations {}", counts.violations);
-    println!("bounded tasks {}", counts.bounded);
-    println!("bounds attained exactly {}", counts.attained);
-    counts.violations == 0
+    output.flush().map_err(with("standard output"))?;
+    Ok(End::Well)
 }

@@ -30,6 +30,8 @@ impl Table {
     pub const TASKS: usize = 64;
     /// H, in ticks.
     pub const HORIZON: i64 = 16_777_215;
+    /// In bytes.
+    pub const LONGEST_IMAGE: usize = 2521;
 
     /// 'Tasks are numbered from 0 in image order': (transaction, task within it) of each number.
     pub fn numbered(&self) -> Vec<(usize, usize)> {

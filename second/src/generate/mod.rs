@@ -3,7 +3,7 @@
 pub mod damage;
 pub mod tables;
 
-use crate::answer::all_cells;
+use crate::answer::{all_cells, Cells};
 use crate::draft;
 use crate::image::read;
 use crate::interference::Charging;
@@ -37,8 +37,12 @@ pub fn case(seed: u64, index: u64) -> Case {
 fn kind(random: &mut Random) -> tables::TableKind {
     use tables::TableKind::*;
     let kind = random.pick(tables::KINDS);
-    let is_dear = matches!(kind, ManyTransactions | ManyTasks | ManyModes | AtAllLimits);
-    if is_dear && random.percent(60) {
+    let is_replaced = match kind {
+        ManyTransactions | ManyModes => random.percent(60),
+        ManyTasks | AtAllLimits => random.percent(85),
+        _ => false,
+    };
+    if is_replaced {
         random.pick(&[Small, Middle, JitterAbovePeriod, ModesWithZeros, EqualPriorities])
     } else {
         kind
@@ -52,31 +56,34 @@ fn charges_in_evaluation(table: &Table) -> usize {
     table.transactions.iter().map(each).sum()
 }
 
-/// About this many charges at most are worked out for a case: some milliseconds.
-const CHARGES_IN_CASE: usize = 500_000;
+/// About this many charges are worked out at most for a case in which tasks come to no end: some milliseconds.
+const CHARGES_IN_CASE: usize = 300_000;
+/// Few tasks that come to an end take more evaluations than this in a table where each is dear.
+const EVALUATIONS: usize = 200;
 
-/// A budget: as much as a case may cost, nothing, little, or around what some task needs.
+/// A budget: in most cases what every task needs that comes to an end, or a little more; else nothing, little, anything,
+/// around what some task needs, or plenty.
 fn budget(random: &mut Random, table: &Table) -> u32 {
     let tasks = table.numbered().len();
-    let most = (CHARGES_IN_CASE / (charges_in_evaluation(table) * tasks)).max(3) as u32;
-    match random.within(0, 9) {
-        0 => random.pick(&[0, 0, 1, 2]),
-        1 => random.within(0, 12.min(most as i64)) as u32,
-        2 => random.within(0, most as i64) as u32,
-        3..=6 => {
-            let row = all_cells(table, Charging::Imposed, most);
-            let needed = random.pick(&row).evaluations;
-            (needed + random.below(3) as u32).saturating_sub(1).min(most)
+    let most = (CHARGES_IN_CASE / (charges_in_evaluation(table) * tasks)).max(EVALUATIONS) as u32;
+    let row = all_cells(table, Charging::Imposed, most);
+    let has_ended = |cells: &&Cells| cells.code != 23;
+    let needed = row.iter().filter(has_ended).map(|cells| cells.evaluations).max().unwrap_or(0);
+    match random.within(1, 100) {
+        1..=4 => random.pick(&[0, 0, 1, 2]),
+        5..=8 => random.within(0, 12) as u32,
+        9..=15 => random.within(0, most as i64) as u32,
+        16..=30 => {
+            let some = random.pick(&row).evaluations;
+            around(random, some)
         }
-        7 => {
-            let row = all_cells(table, Charging::Imposed, most);
-            let all_ended = row.iter().all(|cells| cells.code != 23);
-            if all_ended {
-                random.pick(&[u32::MAX, u32::MAX - 1, 1 << 31, 1_000_000])
-            } else {
-                most
-            }
-        }
+        31..=60 => around(random, needed),
+        61..=90 => random.within(needed as i64, 2 * needed as i64) as u32,
+        _ if row.iter().all(|cells| has_ended(&cells)) => random.pick(&[u32::MAX, u32::MAX - 1, 1 << 31, 1_000_000]),
         _ => most,
     }
+}
+
+fn around(random: &mut Random, needed: u32) -> u32 {
+    (needed + random.below(3) as u32).saturating_sub(1)
 }

@@ -1,139 +1,67 @@
-//! Legal runs of random small tables against the bounds.
+//! Legal runs against the bounds: of random small tables, or of one given table.
 
+pub mod given;
 pub mod legal;
 pub mod plan;
 pub mod play;
+pub mod small;
 
-use crate::answer::all_cells;
 use crate::compare::hex;
 use crate::draft;
-use crate::interference::Charging;
 use crate::random::Random;
-use crate::table::{Table, Task, Transaction};
-use plan::Style;
-use play::{Chooser, Response, Run};
+use crate::table::Table;
+use legal::Response;
+use plan::{Size, Start, Style};
+use play::{Chooser, Run};
+use std::fmt::Write;
 
-#[derive(Default, Debug)]
-pub struct Counts {
-    pub tables: u64,
-    pub runs: u64,
-    pub jobs: u64,
-    pub violations: u64,
-    /// Tasks with a bound in a table that was played, and those of them whose bound some job took exactly.
-    pub bounded: u64,
-    pub attained: u64,
+/// What a run is drawn from.
+struct Draw {
+    starts: Vec<Start>,
+    style: Style,
+    chooser: Chooser,
+    size: Size,
+    wide: bool,
 }
 
-pub struct Settings {
-    pub runs: u64,
-    pub seed: u64,
-    pub wide: bool,
+const STYLES: [Style; 4] = [Style::Random, Style::Critical, Style::Critical, Style::NearlyCritical];
+
+/// One against the task, in most cases.
+fn any_chooser(random: &mut Random, a: usize) -> Chooser {
+    random.pick(&[Chooser::Random, Chooser::Against(a), Chooser::Against(a), Chooser::LateAgainst(a)])
 }
 
-const RUNS_OF_A_TABLE: u64 = 100;
-const BUDGET: u32 = 20_000;
-/// Runs are no longer than this, in ticks after the instant 0.
-const LONGEST: i64 = 300;
-
-/// Tables are drawn until the runs are made, or until a table has a violation, of which the first is printed.
-pub fn simulate(settings: &Settings) -> Counts {
-    let mut counts = Counts::default();
-    let mut index = 0;
-    while counts.runs < settings.runs && counts.violations == 0 {
-        let random = &mut Random::of(settings.seed, index);
-        let table = table(random);
-        let runs = RUNS_OF_A_TABLE.min(settings.runs - counts.runs);
-        play_table(random, &table, runs, settings.wide, &mut counts);
-        index += 1;
-    }
-    counts
-}
-
-fn play_table(random: &mut Random, table: &Table, runs: u64, wide: bool, counts: &mut Counts) {
-    let row = all_cells(table, Charging::Imposed, BUDGET);
-    let bounded = row.iter().filter(|cells| cells.bound > 0).count();
-    if bounded == 0 {
-        return;
-    }
-    counts.tables += 1;
-    counts.bounded += bounded as u64;
-    let mut attained = vec![false; row.len()];
-    let greatest = row.iter().map(|cells| cells.bound as i64).max().unwrap_or(0);
-    let length = (greatest + 2 * table.frame).min(LONGEST);
-    for _ in 0..runs {
-        let (run, responses) = play_once(random, table, length, wide);
-        counts.runs += 1;
-        for response in responses.iter().filter(|response| row[response.task].bound > 0) {
-            let bound = row[response.task].bound as i64;
-            counts.jobs += response.is_finished as u64;
-            attained[response.task] |= response.is_finished && response.ticks == bound;
-            // A job that is not finished at the end of the run finishes a tick later at the earliest.
-            let ticks = response.ticks + !response.is_finished as i64;
-            if ticks > bound {
-                counts.violations += 1;
-                if counts.violations == 1 {
-                    print_violation(table, &run, response.task, ticks, bound);
-                }
-            }
-        }
-    }
-    counts.attained += attained.into_iter().filter(|&was| was).count() as u64;
-}
-
-/// One run of a style and against a task at random. By the letter of the rule it is looked over again.
-fn play_once(random: &mut Random, table: &Table, length: i64, wide: bool) -> (Run, Vec<Response>) {
-    let style = random.pick(&[Style::Random, Style::Critical, Style::Critical, Style::NearlyCritical]);
-    let a = random.below(table.numbered().len());
-    let chooser = random.pick(&[Chooser::Random, Chooser::Against(a), Chooser::Against(a), Chooser::LateAgainst(a)]);
-    let plan = plan::plan(random, table, style, length);
-    let (run, responses) = play::play(random, table, plan, chooser, wide);
-    if !wide {
-        let fault = legal::fault(table, &run);
-        assert!(fault.is_none(), "a played run is legal: {fault:?}");
-    }
+/// Plays a run, and looks it over again from its record.
+fn play_once(random: &mut Random, table: &Table, draw: &Draw) -> (Run, Vec<Response>) {
+    let plan = plan::plan(random, table, &draw.starts, draw.style, draw.size);
+    let run = play::play(random, table, plan, draw.chooser, draw.wide);
+    let responses = legal::responses(table, &run, draw.wide).expect("a played run is legal");
     (run, responses)
 }
 
-fn print_violation(table: &Table, run: &Run, task: usize, ticks: i64, bound: i64) {
-    println!("violation: task {task} took {ticks}, its bound is {bound}");
-    println!("image {}", hex(&draft::image(table)));
-    println!("modes {:?}, first events {:?}", run.plan.modes, run.plan.first_events);
-    for (number, jobs) in run.plan.jobs.iter().enumerate() {
-        println!("task {number}: {jobs:?}");
+/// A violation in words, with its run up to then.
+fn violation(table: &Table, run: &Run, response: &Response, bound: i64) -> String {
+    let Response { task, event, until, .. } = response;
+    let least = if response.is_finished { "" } else { "at least " };
+    let ticks = response.ticks();
+    let mut text =
+        format!("violation: task {task} took {least}{ticks} from its event at {event}, its bound is {bound}\n");
+    let plan = &run.plan;
+    let _ = writeln!(text, "image {}", hex(&draft::image(table)));
+    let _ =
+        writeln!(text, "modes {:?}, first events {:?}; jobs as (event, ready, need)", plan.modes, plan.first_events);
+    for (number, row) in plan.jobs.iter().enumerate() {
+        let came = row.iter().take_while(|job| job.ready < *until);
+        let jobs: Vec<String> = came.map(|job| format!(" ({}, {}, {})", job.event, job.ready, job.need)).collect();
+        let _ = writeln!(text, "task {number}:{}", jobs.concat());
     }
-    println!("processor from tick {}: {:?}", run.start, run.ticks);
-}
-
-/// A small table of a few tasks, with something of everything.
-fn table(random: &mut Random) -> Table {
-    let frame = random.pick(&[4, 6, 8, 10, 12, 16, 20, 24]);
-    let periods: Vec<i64> = (2..=frame).filter(|period| frame % period == 0).collect();
-    let most_modes = random.within(1, 3);
-    let load = random.within(2, 5);
-    let transactions = (0..random.within(1, 3)).map(|_| {
-        let period = random.pick(&periods);
-        let modes = random.within(1, most_modes) as usize;
-        let tasks = (0..random.within(1, 3)).map(|_| task(random, period, modes, load)).collect();
-        Transaction { period, modes, tasks }
-    });
-    Table { frame, transactions: transactions.collect() }
-}
-
-fn task(random: &mut Random, period: i64, modes: usize, load: i64) -> Task {
-    let longest = (period / load).max(1);
-    let mut times: Vec<i64> = (0..modes).map(|_| random.within(1, longest)).collect();
-    let runs_in = random.below(modes);
-    for (mode, time) in times.iter_mut().enumerate() {
-        if mode != runs_in && random.percent(25) {
-            *time = 0;
+    let mut tick = run.start;
+    for piece in &run.pieces {
+        let who = piece.who.map_or("idle".into(), |task| format!("task {task}"));
+        if tick < *until {
+            let _ = writeln!(text, "from {tick} to {}: {who}", tick + piece.ticks);
         }
+        tick += piece.ticks;
     }
-    let offset = if random.percent(80) { random.within(0, period - 1) } else { random.within(0, 3 * period) };
-    let jitter = match random.within(0, 3) {
-        0 => random.within(0, period),
-        1 => random.within(0, 3 * period),
-        _ => 0,
-    };
-    let blocking = if random.percent(40) { random.within(1, 3) } else { 0 };
-    Task { offset, jitter, blocking, deadline: 1000, priority: random.within(0, 4), times }
+    text
 }

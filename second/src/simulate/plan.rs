@@ -6,7 +6,7 @@
 
 use crate::interference::ceil_div;
 use crate::random::Random;
-use crate::table::{Table, Task};
+use crate::table::{Table, Task, Transaction};
 
 #[derive(Clone, Debug)]
 pub struct Job {
@@ -36,30 +36,61 @@ pub enum Style {
     NearlyCritical,
 }
 
-/// A run of random modes. In each transaction some task's job arrives as early as can be ready at tick 0, which is how
-/// a candidate sets the critical instant.
-pub fn plan(random: &mut Random, table: &Table, style: Style, length: i64) -> Plan {
-    let mut plan = Plan { modes: Vec::new(), first_events: Vec::new(), jobs: Vec::new(), end: length };
-    for transaction in &table.transactions {
+/// How a transaction starts: its mode, and the task that sets the instant 0, if one does.
+#[derive(Clone, Copy, Debug, PartialEq, Eq)]
+pub struct Start {
+    pub mode: usize,
+    pub candidate: Option<usize>,
+}
+
+impl Start {
+    /// A random mode, and in it some task that sets the instant, but none for a run that is random throughout.
+    pub fn any(random: &mut Random, transaction: &Transaction, style: Style) -> Start {
         let mode = random.below(transaction.modes);
-        let runs = |task: &&Task| task.times[mode] > 0;
-        let running: Vec<&Task> = transaction.tasks.iter().filter(runs).collect();
-        let first = if style == Style::Random || running.is_empty() {
-            random.within(-2 * transaction.period, transaction.period)
-        } else {
-            let c = random.pick(&running);
-            let event = -(c.offset + c.jitter);
-            // The first event of which some job can be held back to 0.
-            let back = |task: &&Task| ceil_div(-(task.offset + task.jitter) - event, transaction.period);
-            event + running.iter().map(back).min().unwrap_or(0) * transaction.period
-        };
-        plan.modes.push(mode);
+        let running: Vec<usize> =
+            (0..transaction.tasks.len()).filter(|&task| transaction.tasks[task].times[mode] > 0).collect();
+        let is_set = style != Style::Random && !running.is_empty();
+        Start { mode, candidate: is_set.then(|| random.pick(&running)) }
+    }
+}
+
+/// How large a run may be: its ticks after the instant 0, and the jobs of one transaction before it.
+#[derive(Clone, Copy, Debug)]
+pub struct Size {
+    pub length: i64,
+    pub jobs_before: i64,
+}
+
+/// A run from these starts, one for each transaction.
+pub fn plan(random: &mut Random, table: &Table, starts: &[Start], style: Style, size: Size) -> Plan {
+    let mut plan = Plan { modes: Vec::new(), first_events: Vec::new(), jobs: Vec::new(), end: size.length };
+    for (transaction, start) in table.transactions.iter().zip(starts) {
+        let first = first_event(random, transaction, start, size.jobs_before);
+        plan.modes.push(start.mode);
         plan.first_events.push(first);
         for task in &transaction.tasks {
-            plan.jobs.push(jobs(random, task, mode, first, transaction.period, style, length));
+            plan.jobs.push(jobs(random, task, start.mode, first, transaction.period, style, size.length));
         }
     }
     plan
+}
+
+/// The candidate's job arrives as early as can be ready at tick 0, which is how it sets the critical instant.
+fn first_event(random: &mut Random, transaction: &Transaction, start: &Start, jobs_before: i64) -> i64 {
+    let period = transaction.period;
+    let anywhere = random.within(-2 * period, period);
+    let Some(c) = start.candidate.map(|c| &transaction.tasks[c]) else { return anywhere };
+    let event = -(c.offset + c.jitter);
+    let running: Vec<&Task> = transaction.tasks.iter().filter(|task| task.times[start.mode] > 0).collect();
+    // The first event of which some job can be held back to 0.
+    let back = |task: &&Task| ceil_div(-(task.offset + task.jitter) - event, period);
+    let first = event + running.iter().map(back).min().unwrap_or(0) * period;
+    let before: i64 = running.iter().map(|task| ceil_div(-(first + task.offset), period).max(0)).sum();
+    if before <= jobs_before {
+        first
+    } else {
+        anywhere
+    }
 }
 
 fn jobs(

@@ -1,11 +1,11 @@
-//! Who holds the processor, tick by tick.
+//! Who holds the processor, from one change to the next.
 //!
 //! 'While a job of a's priority or above is pending, such jobs hold the processor, ties in any order, save that lower
 //! work and idling together may take up to B of the ticks of any unbroken stretch of such pending work, B being a's.
 //! This holds with each task as a.'
 
 use crate::random::Random;
-use crate::simulate::plan::Plan;
+use crate::simulate::plan::{Job, Plan};
 use crate::table::{Table, Task};
 
 /// Who chooses among what the rules allow.
@@ -19,22 +19,29 @@ pub enum Chooser {
     LateAgainst(usize),
 }
 
-/// A run: its plan, and for each tick from `start` the task whose first unfinished job runs, or none.
+/// Some ticks through which one task holds the processor, or none does.
+#[derive(Clone, Copy, Debug, PartialEq, Eq)]
+pub struct Piece {
+    pub who: Option<usize>,
+    pub ticks: i64,
+}
+
+/// A run: its plan, and from tick `start` on the pieces up to the plan's end. In a piece the task's jobs run in arrival
+/// order.
 pub struct Run {
     pub plan: Plan,
     pub start: i64,
-    pub ticks: Vec<Option<usize>>,
-}
-
-/// A finished job's response; for a job not finished at the end of the run, the ticks from its event to that end.
-pub struct Response {
-    pub task: usize,
-    pub ticks: i64,
-    pub is_finished: bool,
+    pub pieces: Vec<Piece>,
 }
 
 pub fn tasks(table: &Table) -> Vec<&Task> {
     table.transactions.iter().flat_map(|transaction| &transaction.tasks).collect()
+}
+
+/// The tasks with a pending job, and the greatest priority among them; −1 if there are none.
+struct Pending {
+    tasks: Vec<usize>,
+    most: i64,
 }
 
 /// The state of the processor between two ticks.
@@ -47,29 +54,49 @@ struct State<'t> {
 }
 
 impl State<'_> {
-    fn is_pending(&self, plan: &Plan, task: usize, tick: i64) -> bool {
-        plan.jobs[task].get(self.current[task].0).is_some_and(|job| job.ready <= tick)
+    fn pending(&self, plan: &Plan, tick: i64) -> Pending {
+        let is_pending =
+            |task: &usize| plan.jobs[*task].get(self.current[*task].0).is_some_and(|job| job.ready <= tick);
+        let tasks: Vec<usize> = (0..self.tasks.len()).filter(is_pending).collect();
+        let most = tasks.iter().map(|&task| self.tasks[task].priority).max().unwrap_or(-1);
+        Pending { tasks, most }
     }
 
     /// Whether a job of the priority of task `a` or above is among the pending.
-    fn is_stretch(&self, pending: &[usize], a: usize) -> bool {
-        pending.iter().any(|&j| self.tasks[j].priority >= self.tasks[a].priority)
+    fn is_stretch(&self, pending: &Pending, a: usize) -> bool {
+        pending.most >= self.tasks[a].priority
     }
 
-    /// Whether the choice would take a tick from task a's stretch.
+    /// The stretches of which no job is pending have ended.
+    fn end_stretches(&mut self, pending: &Pending) {
+        for a in 0..self.tasks.len() {
+            if !self.is_stretch(pending, a) {
+                self.taken[a] = 0;
+            }
+        }
+    }
+
+    /// Idling counts as less urgent than any work.
+    fn priority(&self, choice: Option<usize>) -> i64 {
+        choice.map_or(-1, |j| self.tasks[j].priority)
+    }
+
+    /// Whether the choice would take ticks from the stretch of task a.
     fn takes(&self, choice: Option<usize>, a: usize) -> bool {
-        choice.is_none_or(|j| self.tasks[j].priority < self.tasks[a].priority)
+        self.priority(choice) < self.tasks[a].priority
     }
 
-    fn is_allowed(&self, pending: &[usize], choice: Option<usize>) -> bool {
-        (0..self.tasks.len())
-            .all(|a| !self.is_stretch(pending, a) || !self.takes(choice, a) || self.taken[a] < self.tasks[a].blocking)
+    /// The least priority of an allowed choice: one below would take from a stretch whose B is used up.
+    fn least_allowed(&self, pending: &Pending) -> i64 {
+        let is_used_up = |a: &usize| self.is_stretch(pending, *a) && self.taken[*a] == self.tasks[*a].blocking;
+        (0..self.tasks.len()).filter(is_used_up).map(|a| self.tasks[a].priority).max().unwrap_or(-1)
     }
 
-    fn choose(&self, random: &mut Random, chooser: Chooser, pending: &[usize]) -> Option<usize> {
-        let mut choices: Vec<Option<usize>> = pending.iter().map(|&j| Some(j)).collect();
+    fn choose(&self, random: &mut Random, chooser: Chooser, pending: &Pending) -> Option<usize> {
+        let mut choices: Vec<Option<usize>> = pending.tasks.iter().map(|&j| Some(j)).collect();
         choices.push(None);
-        choices.retain(|&choice| self.is_allowed(pending, choice));
+        let least = self.least_allowed(pending);
+        choices.retain(|&choice| self.priority(choice) >= least);
         let target = match chooser {
             Chooser::Random => return random.pick(&choices),
             Chooser::Against(a) | Chooser::LateAgainst(a) => a,
@@ -91,60 +118,74 @@ impl State<'_> {
         choices.retain(|&choice| rank(choice) == best);
         random.pick(&choices)
     }
+
+    /// How long the choice may last at most: nothing becomes ready or finishes before that, and no B is passed.
+    fn longest(&self, pending: &Pending, choice: Option<usize>, next_change: i64) -> i64 {
+        let need = choice.map_or(next_change, |task| self.current[task].1);
+        let is_taken = |a: &usize| self.is_stretch(pending, *a) && self.takes(choice, *a);
+        let left = (0..self.tasks.len()).filter(is_taken).map(|a| self.tasks[a].blocking - self.taken[a]).min();
+        next_change.min(need).min(left.unwrap_or(next_change))
+    }
+
+    /// The piece goes by.
+    fn pass(&mut self, plan: &Plan, pending: &Pending, piece: Piece) {
+        for a in 0..self.tasks.len() {
+            if self.is_stretch(pending, a) && self.takes(piece.who, a) {
+                self.taken[a] += piece.ticks;
+            }
+        }
+        if let Some(task) = piece.who {
+            let (index, left) = &mut self.current[task];
+            *left -= piece.ticks;
+            if *left == 0 {
+                *index += 1;
+                *left = plan.jobs[task].get(*index).map_or(0, |job| job.need);
+            }
+        }
+    }
+}
+
+/// How long a choice lasts. Who is not simply against a task may change his mind at any tick.
+fn length(random: &mut Random, chooser: Chooser, longest: i64) -> i64 {
+    match chooser {
+        Chooser::Random | Chooser::LateAgainst(_) if random.percent(50) => random.within(1, longest),
+        _ => longest,
+    }
+}
+
+/// The ticks at which a job becomes ready, and the end.
+fn changes(plan: &Plan) -> Vec<i64> {
+    let ready = plan.jobs.iter().flatten().map(|job| job.ready);
+    let mut changes: Vec<i64> = ready.filter(|&tick| tick < plan.end).chain([plan.end]).collect();
+    changes.sort_unstable();
+    changes.dedup();
+    changes
 }
 
 /// Plays the plan. With `wide` a stretch also ends where all its jobs have finished at the edge of a tick, though the
 /// next tick has new ones: more runs are then allowed than by the letter.
-pub fn play(random: &mut Random, table: &Table, plan: Plan, chooser: Chooser, wide: bool) -> (Run, Vec<Response>) {
+pub fn play(random: &mut Random, table: &Table, plan: Plan, chooser: Chooser, wide: bool) -> Run {
     let tasks = tasks(table);
-    let first_need = |row: &Vec<crate::simulate::plan::Job>| (0, row.first().map_or(0, |job| job.need));
+    let first_need = |row: &Vec<Job>| (0, row.first().map_or(0, |job| job.need));
     let current = plan.jobs.iter().map(first_need).collect();
     let mut state = State { taken: vec![0; tasks.len()], current, tasks };
-    let start = plan.jobs.iter().flatten().map(|job| job.ready).min().unwrap_or(plan.end);
-    let mut ticks = Vec::new();
-    let mut responses = Vec::new();
-    for tick in start..plan.end {
-        let count = state.tasks.len();
-        let pending: Vec<usize> = (0..count).filter(|&j| state.is_pending(&plan, j, tick)).collect();
-        for a in 0..count {
-            if !state.is_stretch(&pending, a) {
-                state.taken[a] = 0;
+    let changes = changes(&plan);
+    let mut pieces = Vec::new();
+    for between in changes.windows(2) {
+        let mut tick = between[0];
+        while tick < between[1] {
+            let pending = state.pending(&plan, tick);
+            state.end_stretches(&pending);
+            let who = state.choose(random, chooser, &pending);
+            let ticks = length(random, chooser, state.longest(&pending, who, between[1] - tick));
+            state.pass(&plan, &pending, Piece { who, ticks });
+            pieces.push(Piece { who, ticks });
+            tick += ticks;
+            if wide {
+                let left = state.pending(&plan, tick - 1);
+                state.end_stretches(&left);
             }
         }
-        let choice = state.choose(random, chooser, &pending);
-        for a in 0..count {
-            if state.is_stretch(&pending, a) && state.takes(choice, a) {
-                state.taken[a] += 1;
-            }
-        }
-        if let Some(task) = choice {
-            serve(&mut state, &plan, task, tick, &mut responses);
-        }
-        if wide {
-            let left: Vec<usize> = (0..count).filter(|&j| state.is_pending(&plan, j, tick)).collect();
-            for a in 0..count {
-                if !state.is_stretch(&left, a) {
-                    state.taken[a] = 0;
-                }
-            }
-        }
-        ticks.push(choice);
     }
-    for (task, row) in plan.jobs.iter().enumerate() {
-        for job in &row[state.current[task].0..] {
-            responses.push(Response { task, ticks: plan.end - job.event, is_finished: false });
-        }
-    }
-    (Run { plan, start, ticks }, responses)
-}
-
-/// One tick of the first unfinished job of a task. 'Response runs from event to finish.'
-fn serve(state: &mut State, plan: &Plan, task: usize, tick: i64, responses: &mut Vec<Response>) {
-    let (index, left) = &mut state.current[task];
-    *left -= 1;
-    if *left == 0 {
-        responses.push(Response { task, ticks: tick + 1 - plan.jobs[task][*index].event, is_finished: true });
-        *index += 1;
-        *left = plan.jobs[task].get(*index).map_or(0, |job| job.need);
-    }
+    Run { plan, start: changes[0], pieces }
 }

@@ -34,7 +34,8 @@ fn jitter_above_the_period() {
     let fixed = lower(&table);
     assert_eq!(phase(10, fixed.task(), fixed.task()), 8);
     let responses: Vec<Step> = steps(&fixed).into_iter().filter(|s| matches!(s, Step::Response { .. })).collect();
-    assert_eq!(responses, [Step::Response { job: -1, response: 14 }, Step::Response { job: 0, response: 6 }]);
+    let expected = [(-1, 2, 14), (0, 4, 6)];
+    assert_eq!(responses, expected.map(|(job, completion, response)| Step::Response { job, completion, response }));
     assert_eq!(triple(&fixed, Charging::Imposed, PLENTY), (0, 14, 4));
 }
 

@@ -6,9 +6,9 @@ use crate::generate::tables::{table, KINDS};
 use crate::generate::{case, Case};
 use crate::image::read;
 use crate::random::Random;
-use crate::simulate::{simulate, Settings};
+use crate::simulate::small::{simulate, Settings};
 use crate::{draft, stream};
-use std::collections::BTreeSet;
+use std::collections::BTreeMap;
 
 #[test]
 fn good_tables_are_read_back() {
@@ -20,17 +20,32 @@ fn good_tables_are_read_back() {
     }
 }
 
+/// Each refusal in one of 200 images, each code in one of 80 tasks, and no more spent budgets than one in five. Some
+/// chains are long, and some budgets end in one, else an error behind its first evaluations would not show.
 #[test]
-fn every_answer_is_generated() {
-    let mut numbers = BTreeSet::new();
-    for index in 0..3000 {
+fn every_answer_comes_often() {
+    let (mut refused, mut codes, mut longest) = (BTreeMap::new(), BTreeMap::new(), BTreeMap::new());
+    for index in 0..2000 {
         let Case { budget, image } = case(1, index);
         match answer(&image, budget) {
-            Err(refusal) => drop(numbers.insert(refusal.number)),
-            Ok(row) => numbers.extend(row.iter().map(|cells| cells.code)),
+            Err(refusal) => *refused.entry(refusal.number).or_insert(0) += 1,
+            Ok(row) => {
+                for cells in row {
+                    *codes.entry(cells.code).or_insert(0) += 1;
+                    let longest = longest.entry(cells.code).or_insert(0);
+                    *longest = cells.evaluations.max(*longest);
+                }
+            }
         }
     }
-    assert_eq!(numbers, BTreeSet::from_iter([0, 1, 2, 3, 4, 5, 6, 7, 8, 9, 10, 11, 20, 21, 22, 23]));
+    let tasks: i32 = codes.values().sum();
+    assert!((1..=11).all(|number| refused.get(&number).is_some_and(|count| 200 * count > 2000)), "{refused:?}");
+    assert!(
+        [0, 20, 21, 22, 23].iter().all(|code| codes.get(code).is_some_and(|count| 80 * count > tasks)),
+        "{codes:?}"
+    );
+    assert!(5 * codes[&23] < tasks, "{codes:?}");
+    assert!(longest[&0] > 1000 && longest[&20] > 1000 && longest[&23] > 50_000, "{longest:?}");
 }
 
 #[test]
@@ -81,7 +96,7 @@ fn a_stream_is_read_as_it_was_written() {
 #[test]
 fn legal_runs_keep_the_bounds() {
     for wide in [false, true] {
-        let counts = simulate(&Settings { runs: 2000, seed: 1, wide });
+        let counts = simulate(&Settings { runs: 2000, seed: 1, wide }, &mut |_| ());
         assert_eq!(counts.violations, 0);
         assert!(2 * counts.attained > counts.bounded, "the runs are hard on the bounds: {counts:?}");
     }

@@ -1,9 +1,11 @@
 //! What the document and the papers give as figures, and what they leave to be checked on many tables.
 
 mod by_hand;
+mod given;
 mod legal;
 mod many;
 mod papers;
+mod progress;
 mod refusals;
 
 use crate::answer::{cells, Cells};

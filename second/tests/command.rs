@@ -1,0 +1,155 @@
+//! What the program is to those who start it: where it writes, how it ends, and what it does when nobody listens.
+
+use std::fs::File;
+use std::io::{Read, Write};
+use std::process::{Command, Output, Stdio};
+
+fn second(words: &[&str]) -> Command {
+    let mut command = Command::new(env!("CARGO_BIN_EXE_second"));
+    command.args(words).stdin(Stdio::null());
+    command
+}
+
+fn output(words: &[&str]) -> Output {
+    second(words).output().unwrap()
+}
+
+fn text(bytes: &[u8]) -> &str {
+    std::str::from_utf8(bytes).unwrap()
+}
+
+#[test]
+fn help_is_on_standard_output() {
+    for words in [&["help"][..], &["--help"], &["-h"], &["compare", "--help"], &["simulate", "--help", "--wide"]] {
+        let output = output(words);
+        assert_eq!(output.status.code(), Some(0), "{words:?}");
+        assert!(text(&output.stdout).contains("second simulate"), "{words:?}");
+        assert!(output.stderr.is_empty(), "{words:?}");
+    }
+}
+
+#[test]
+fn what_cannot_be_carried_out_is_told_with_status_3() {
+    let cases = [
+        (&[][..], "a command is missing"),
+        (&["lst"], "there is no command lst"),
+        (&["list", "more"], "what is more?"),
+        (&["host", "0"], "BUDGET needs a number"),
+        (&["generate", "--cases", "1"], "--seed is missing"),
+        (&["generate", "--cases", "many", "--seed", "1"], "--cases needs a number"),
+        (&["compare", "--cases", "1", "--seed", "1"], "--program is missing"),
+        (&["compare", "--cases", "1", "--seed", "1", "--program", "/no/program"], "/no/program: "),
+        (&["simulate", "/no/file"], "/no/file: "),
+        (&["simulate", "/"], "/: "),
+        (&["simulate", "--seed", "1"], "--runs is missing"),
+        (&["simulate", "--narrow"], "what is --narrow?"),
+    ];
+    for (words, told) in cases {
+        let output = output(words);
+        assert_eq!(output.status.code(), Some(3), "{words:?}");
+        assert!(text(&output.stderr).starts_with(&format!("second: {told}")), "{words:?}: {output:?}");
+        assert!(output.stdout.is_empty(), "{words:?}");
+    }
+}
+
+/// Far more is to be written than a pipe holds, and the reader leaves early or before the first byte.
+#[test]
+fn a_closed_pipe_ends_it_without_a_word() {
+    for read in [0, 100] {
+        let mut command = second(&["generate", "--cases", "1000000000", "--seed", "1"]);
+        let mut child = command.stdout(Stdio::piped()).stderr(Stdio::piped()).spawn().unwrap();
+        let mut reader = child.stdout.take().unwrap();
+        reader.read_exact(&mut vec![0; read]).unwrap();
+        drop(reader);
+        let output = child.wait_with_output().unwrap();
+        assert_eq!(text(&output.stderr), "");
+        assert_eq!(output.status.code(), Some(3));
+    }
+}
+
+#[test]
+fn output_that_cannot_be_written_is_told_with_status_3() {
+    let Ok(full) = File::options().write(true).open("/dev/full") else { return };
+    for words in [&["help"][..], &["generate", "--cases", "9", "--seed", "1"], &["list"]] {
+        let output = second(words).stdout(full.try_clone().unwrap()).output().unwrap();
+        assert_eq!(output.status.code(), Some(3), "{words:?}");
+        assert!(text(&output.stderr).starts_with("second: standard output: "), "{words:?}: {output:?}");
+    }
+}
+
+/// No more of an endless input is read than shows that it is no table.
+#[test]
+fn an_endless_input_is_refused() {
+    let output = second(&["list"]).stdin(File::open("/dev/zero").unwrap()).output().unwrap();
+    assert_eq!(text(&output.stdout), "refused 2 0\n");
+}
+
+#[test]
+fn a_program_that_answers_otherwise_is_a_difference() {
+    let compare = |program: &[&str]| {
+        output(&[&["compare", "--cases", "40", "--seed", "1", "--batch", "20", "--program"], program].concat())
+    };
+    let same = compare(&[env!("CARGO_BIN_EXE_second"), "answer"]);
+    assert_eq!(same.status.code(), Some(0), "{same:?}");
+    assert!(text(&same.stdout).starts_with("seed 1: 40 cases, no difference\n"));
+    let other = compare(&["true"]);
+    assert_eq!(other.status.code(), Some(1), "{other:?}");
+    assert!(text(&other.stdout).starts_with("difference at seed 1 case 0 "));
+}
+
+/// The one-task image that document 01 prints.
+fn image() -> Vec<u8> {
+    [&[0x10, 0, 0, 0xA0, 0x40, 0, 2, 0x84, 0x20][..], &[0; 11], &[0x50, 0x28, 0, 0, 0x18]].concat()
+}
+
+fn output_for(words: &[&str], input: &[u8]) -> Output {
+    let mut child = second(words).stdin(Stdio::piped()).stdout(Stdio::piped()).spawn().unwrap();
+    child.stdin.take().unwrap().write_all(input).unwrap();
+    child.wait_with_output().unwrap()
+}
+
+/// A file that holds these bytes.
+fn file(name: &str, bytes: &[u8]) -> String {
+    let path = format!("{}/{name}", env!("CARGO_TARGET_TMPDIR"));
+    std::fs::write(&path, bytes).unwrap();
+    path
+}
+
+#[test]
+fn an_image_on_standard_input_is_listed() {
+    let output = output_for(&["list"], &image());
+    assert_eq!(text(&output.stdout), "task code bound evaluations\n0 0 3 3\n");
+    assert_eq!(output.status.code(), Some(0));
+}
+
+#[test]
+fn runs_of_a_file_show_the_longest_response_beside_the_bound() {
+    let file = file("one task.table", &image());
+    let played = output(&["simulate", &file, "--runs", "20", "--seed", "3"]);
+    assert_eq!(played.status.code(), Some(0));
+    assert_eq!(text(&played.stdout).lines().nth(1), Some("   0    0        10         3         3"));
+    assert!(text(&played.stdout).contains("\nseed 3\nruns 20\n"));
+    let other_order = output(&["simulate", "--seed", "3", "--runs", "20", &file]);
+    assert_eq!(other_order.stdout, played.stdout);
+    let from_input = output_for(&["simulate", "-", "--runs", "20", "--seed", "3"], &image());
+    assert_eq!(from_input.stdout, played.stdout);
+    let by_default = output(&["simulate", &file, "--wide"]);
+    assert_eq!(by_default.status.code(), Some(0));
+    assert!(text(&by_default.stdout).contains("\nseed 1\nruns 10000\n"));
+}
+
+#[test]
+fn a_refused_file_ends_with_status_2() {
+    let output = output(&["simulate", &file("cut.table", &image()[..9])]);
+    assert_eq!(text(&output.stdout), "refused 1 67\n");
+    assert_eq!(output.status.code(), Some(2));
+}
+
+/// The program takes longer than a terminal has to wait for a line.
+#[test]
+fn a_log_has_no_progress() {
+    let slow = ["sh", "-c", "sleep 0.8; exec \"$0\" answer", env!("CARGO_BIN_EXE_second")];
+    let output = output(&[&["compare", "--cases", "2", "--seed", "1", "--program"], &slow[..]].concat());
+    assert_eq!(text(&output.stderr), "");
+    assert!(text(&output.stdout).starts_with("seed 1: 2 cases, no difference\n"));
+}
