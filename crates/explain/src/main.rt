@@ -2,20 +2,13 @@
 use input::Input;
 use libc::STDERR_FILENO;
 use libc::STDOUT_FILENO;
-use refusals::Answer;
 use refusals::Refusal;
 use row::Table;
+use sumpcandle::Filled;
 use sumpcandle::TaskCells;
-ghost use Prim.Native.Nat.{_<_, _^_};
 
 fn wide(x: u32) -> u64 {
     x as u64
-}
-
-fn index(x: u32) -> usize
-    ensures { λ r. ⌜ r < 2 ^ 32 ⌝ }
-{
-    x as usize
 }
 
 fn say(text: &[u8]) {
@@ -35,35 +28,45 @@ fn ticks(x: u32) {
     }
 }
 
-// A task that has a bound.
+fn beyond(x: u32, y: u32) -> u32 {
+    if y < x { x - y } else { 0 }
+}
+
+// A task that has a bound, and its deadline.
 fn bounded(bound: u32, deadline: u32) {
     say(b" finishes up to ");
     ticks(bound);
     say(b" after its event, its deadline is ");
     number(wide(deadline));
-    if bound <= deadline {
-        say(b": in time, with ");
-        number(wide(deadline - bound));
-        say(b" to spare");
-    } else {
-        say(b": late by ");
-        number(wide(bound - deadline));
-    }
 }
 
-// A task that has none.
-fn unbounded(code: u32) {
-    if code == TaskCells::OVERLOAD {
+// What the code of a task says, with its bound and its deadline.
+fn meaning(code: u32, bound: u32, deadline: u32) {
+    if code == TaskCells::KEPT {
+        bounded(bound, deadline);
+        say(b": in time, with ");
+        number(wide(beyond(deadline, bound)));
+        say(b" to spare");
+    } else if code == TaskCells::LATE {
+        bounded(bound, deadline);
+        say(b": not shown to keep it, the bound is ");
+        number(wide(beyond(bound, deadline)));
+        say(b" above");
+    } else if code == TaskCells::OVERLOAD {
         say(
-            b" has no bound: it and the tasks that can delay it want more than the major frame holds",
+            b" has no bound: it and the tasks that can delay it may want more than the major frame holds",
         );
     } else if code == TaskCells::BEYOND {
-        say(b" has no bound: its busy time can pass the horizon of ");
+        say(b" has no bound: no busy time up to the horizon of ");
         ticks(Table::HORIZON);
-    } else {
+        say(b" was found to end");
+    } else if code == TaskCells::SPENT {
         say(b" is not decided: ");
         number(wide(input::BUDGET));
         say(b" evaluations were not enough");
+    } else {
+        say(b" has a code that is not known here: ");
+        number(wide(code));
     }
 }
 
@@ -73,21 +76,16 @@ fn task(cells: &[u32; sumpcandle::CELLS], k: usize, deadline: u32) {
     }
     say(b"task ");
     number(k as u64);
-    let code = cells[TaskCells::COUNT * k + TaskCells::CODE_CELL];
-    if code <= TaskCells::LATE {
-        bounded(
-            cells[TaskCells::COUNT * k + TaskCells::BOUND_CELL],
-            deadline,
-        );
-    } else {
-        unbounded(code);
-    }
+    meaning(
+        cells[TaskCells::COUNT * k + TaskCells::CODE_CELL],
+        cells[TaskCells::COUNT * k + TaskCells::BOUND_CELL],
+        deadline,
+    );
     say(b"\n");
 }
 
-fn every_task(cells: &[u32; sumpcandle::CELLS], table: &[u32; Table::CELLS]) {
-    let count = index(Table::in_all(table));
-    for k in 0..count {
+fn every_task(cells: &[u32; sumpcandle::CELLS], tasks: usize, table: &[u32; Table::CELLS]) {
+    for k in 0..tasks {
         task(cells, k, Table::deadline(table, k));
     }
 }
@@ -119,16 +117,11 @@ fn refused(refusal: Refusal, at: usize) {
 }
 
 fn explain(image: &[u8]) {
-    let reading = image::read(image);
-    let answer = reading.answer;
-    let table = reading.table;
+    let table = image::read(image).table;
     let mut cells = [0u32; sumpcandle::CELLS];
-    match answer {
-        Answer::Refused(refusal, at) => refused(refusal, at),
-        Answer::Accepted => {
-            sumpcandle::cells(image, input::BUDGET, &mut cells);
-            every_task(&cells, &table.cells);
-        }
+    match sumpcandle::cells(image, input::BUDGET, &mut cells) {
+        Filled::Refused(refusal, at) => refused(refusal, at),
+        Filled::Done(tasks) => every_task(&cells, tasks, &table.cells),
     }
 }
 

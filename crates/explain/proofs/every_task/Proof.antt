@@ -5,16 +5,10 @@ use Rattle.explain.proofs.every_task.Statement.{statement}
 use Rattle.explain.proofs.every_task.Tie as tie
 
 abbrev Inv-loop : tie.InvT-loop
-Inv-loop cells table count k₀ k = k ≤ count
+Inv-loop cells tasks table k₀ k = k ≤ tasks
 
 abbrev μ-loop : tie.MeasureT-loop
-μ-loop cells table count k₀ k = count - k
-
-in-all-requires : tie.Need-in-all-requires Inv-loop μ-loop
-in-all-requires c κs = search needs
-
-index-requires : tie.Need-index-requires Inv-loop μ-loop
-index-requires c κs = search needs
+μ-loop cells tasks table k₀ k = tasks - k
 
 loop-holds : tie.Need-loop-holds Inv-loop μ-loop
 loop-holds c = search needs
@@ -43,8 +37,6 @@ every-task-spec =
     (tie.spec
     Inv-loop
     μ-loop
-    in-all-requires
-    index-requires
     loop-holds
     deadline-requires
     task-requires
