@@ -3,9 +3,9 @@ use mathlib.Core.Path.{_≡_, refl, _∙_}
 use Prim.Native.Nat.{_-_, _≤_}
 use native.Mathlib.Omega.{arith}
 use Rattle.table.specs.Sum.{sum as sumOf}
+use Rattle.table.proofs.Sum.{sum-next}
 use Rattle.row.specs.Row.{tableOf}
 use Rattle.charge.specs.Split.{restAt}
-use Rattle.charge.proofs.Ranges.{sum-next}
 use Rattle.answers.proofs.Readings.{rests-room, rests-all}
 use Rattle.answers.proofs.charges.rests.Statement.{statement}
 use Rattle.answers.proofs.charges.rests.Tie as tie
