@@ -1,7 +1,7 @@
 -- `fill` writes the cells of task after task. The invariant: the tasks below k have their cells, what lies behind is as it
 -- was, and the working row is the table's. The measure is the number of tasks that are left.
 use mathlib.Core.Path.{_≡_, refl, sym, ap, _∙_}
-use Prim.Native.Nat.{_+_, _-_, _*_, _≤_, _<_, zero-le}
+use Prim.Native.Nat.{_-_, _*_, _≤_, _<_, zero-le}
 use native.Mathlib.Omega.{arith}
 use lib.ListN.{length}
 use denote.Ref.{now}
@@ -122,9 +122,9 @@ returns c =
 returns-2 : tie.Need-returns-2 Inv-loop μ-loop
 returns-2 c =
     let y = c .before .before in
-    let few : length (now (y .before .before .before .before .args .cells)) < cellsOfTask * y .index .result =
+    let short : length (now (y .before .before .before .before .args .cells)) < cellsOfTask * y .index .result =
     leb-false _ _ (sym (c .before .have-room .ensures) ∙ c .if1 .left) in
-    FillsFrom.short (omega (arith, all y, few)) refl
+    FillsFrom.short (omega (arith, all y, short)) refl
 
 pub fill-spec : {M : Type 1} → statement M
 fill-spec =
