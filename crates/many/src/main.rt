@@ -1,5 +1,5 @@
-// Answers many images in one run, for comparison with a second program. Standard input is a row of cases: budget, 4 bytes
-// most significant first; length of the image, 2 bytes; the image. A line for each: `accepted` and the cells of its tasks,
+// Answers many images in one run, for comparison with a second program. Standard input is case after case: budget, 4
+// bytes most significant first; length of the image, 2 bytes; the image. A line for each: `accepted` and the cells of its tasks,
 // or `refused`, number and place. A case that is cut short ends the run.
 use libc::STDIN_FILENO;
 use libc::STDOUT_FILENO;

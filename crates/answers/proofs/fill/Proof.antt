@@ -122,9 +122,9 @@ returns c =
 returns-2 : tie.Need-returns-2 Inv-loop μ-loop
 returns-2 c =
     let y = c .before .before in
-    let few : length (now (y .before .before .before .before .args .cells)) < cellsOfTask * y .index .result =
+    let short : length (now (y .before .before .before .before .args .cells)) < cellsOfTask * y .index .result =
     leb-false _ _ (sym (c .before .have-room .ensures) ∙ c .if1 .left) in
-    FillsFrom.short (omega (arith, all y, few)) refl
+    FillsFrom.short (omega (arith, all y, short)) refl
 
 pub fill-spec : {M : Type 1} → statement M
 fill-spec =
