@@ -2,6 +2,7 @@
 // otherwise they charge what they impose. Phases, weights and their sums are read from the work cells, and t is
 // split by the period once for each transaction. What lies below `rivals` may become faster; its contract stays.
 use super::layout::Work;
+use super::quantity::Jobs;
 use super::quantity::Ticks;
 use super::reads;
 use row::Table;
@@ -38,23 +39,23 @@ fn place(work: &[u32; Work::CELLS], i: usize, c: usize, j: usize) -> usize
 }
 
 // Phase of task j when candidate c sets the critical instant.
-pub(crate) fn phase_of(work: &[u32; Work::CELLS], i: usize, c: usize, j: usize) -> u64
+pub(crate) fn phase_of(work: &[u32; Work::CELLS], i: usize, c: usize, j: usize) -> Ticks
     requires { ⌜ Lent (now work) ⌝ }
     requires { ⌜ IsTask (tableOf (now work)) i c ⌝ }
     requires { ⌜ IsTask (tableOf (now work)) i j ⌝ }
-    ensures { λ r. ⌜ r ≡ phaseOf (tableOf (now (work .entry))) i c j ⌝ }
+    ensures { λ r. ⌜ r .0 ≡ phaseOf (tableOf (now (work .entry))) i c j ⌝ }
 {
-    reads::wide(work[Work::PHASES + place(work, i, c, j)])
+    Ticks(reads::wide(work[Work::PHASES + place(work, i, c, j)]))
 }
 
 // Jobs of task j held back to the instant.
-pub(crate) fn held_of(work: &[u32; Work::CELLS], i: usize, c: usize, j: usize) -> u64
+pub(crate) fn held_of(work: &[u32; Work::CELLS], i: usize, c: usize, j: usize) -> Jobs
     requires { ⌜ Lent (now work) ⌝ }
     requires { ⌜ IsTask (tableOf (now work)) i c ⌝ }
     requires { ⌜ IsTask (tableOf (now work)) i j ⌝ }
-    ensures { λ r. ⌜ r ≡ heldOf (tableOf (now (work .entry))) i c j ⌝ }
+    ensures { λ r. ⌜ r .0 ≡ heldOf (tableOf (now (work .entry))) i c j ⌝ }
 {
-    reads::wide(work[Work::HELD + place(work, i, c, j)])
+    Jobs(reads::wide(work[Work::HELD + place(work, i, c, j)]))
 }
 
 pub(crate) fn greater(x: u64, y: u64) -> u64
