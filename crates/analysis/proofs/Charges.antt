@@ -14,6 +14,7 @@ use Rattle.periods.specs.Phase.{ceil, phase, held}
 use Rattle.periods.specs.Charge.{imposed, released}
 use Rattle.periods.proofs.Phase.{self-held}
 use Rattle.periods.proofs.Charge.{rel, imposed-is, released-is, imp-mono, rel-mono, imp≤rel, ceil-mono, ceil-gt}
+use Rattle.table.proofs.Ranges.{kept-period}
 use Rattle.analysis.specs.Choice.{when}
 use Rattle.analysis.specs.Rival.{rival?, Candidate}
 use Rattle.analysis.specs.Charge.{Later, phaseOf, heldOf, taskCharge, charge, greatest, others}
@@ -21,10 +22,6 @@ use Rattle.analysis.specs.Bound.{lastJob, jobsTo, own, demand, busy, Set
 use Rattle.analysis.specs.Needed.{job, start}
 use Rattle.analysis.proofs.Choice.{when-yes, when-mono, unless-mono, most-mono}
 use Rattle.analysis.proofs.Join.{jobs-to-job, jobs-by, own-by}
-
-pub kept-period : {tab : Table} {i : ℕ} → Kept tab → i < transactions tab → 0 < period tab i
-unfolding period
-kept-period {i} kept h = kept .each i h .period
 
 -- by s the one charge is at most what the other is by t
 pub record Grows (early late : Later) (s t : ℕ) : Type 0 where

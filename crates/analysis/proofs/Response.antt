@@ -9,6 +9,7 @@ use native.Mathlib.Nat.{le-of-eq, le-antisymm, div-mul-le-self}
 use native.Mathlib.Omega.{arith}
 use Rattle.table.specs.Table.{Table, IsTask, period, modes, tasks, task, offset, jitter, time}
 use Rattle.table.specs.Kept.{Kept, KeptTask}
+use Rattle.table.proofs.Ranges.{kept-period}
 use Rattle.periods.specs.Phase.{held}
 use Rattle.periods.specs.Charge.{imposed}
 use Rattle.periods.proofs.Phase.{self-held}
@@ -19,7 +20,7 @@ use Rattle.analysis.proofs.Choice.{least-unique}
 use Rattle.analysis.proofs.Bounds.{CandidateBound, Bounds}
 use Rattle.analysis.proofs.Join.{own-job, jobs-by}
 use Rattle.analysis.proofs.Signed.{Minus, minus-pos, le-minus, response-minus, job-range, range-job}
-use Rattle.analysis.proofs.Charges.{Fair, kept-period, imposed-fair, self-jobs}
+use Rattle.analysis.proofs.Charges.{Fair, imposed-fair, self-jobs}
 use Rattle.analysis.proofs.Turn.{job-completion, queued-completes, completion-within}
 
 -- r is the response of the N-th job counted from the first, which is queued by the busy length L and completes at w

@@ -11,6 +11,7 @@ use Rattle.table.specs.Limits.{tasksMost, tasksInAll}
 use Rattle.table.specs.Number.{before, inAll, number}
 use Rattle.table.specs.Kept.{Kept}
 use Rattle.table.proofs.Number.{place, number-lt, number-unique}
+use Rattle.table.proofs.Ranges.{tasks-few}
 use Rattle.row.specs.Row.{firstCell, ownerCell, rowCells, tableOf, headCell, bodyCell, RowOfTable}
 use Rattle.row.proofs.Fields.{read-first, read-owner}
 use Rattle.row.proofs.Rows.{row-size}
@@ -18,7 +19,6 @@ use Rattle.row.proofs.Longer.{same-held, longer}
 use Rattle.analysis.specs.Charge.{phaseOf, heldOf}
 use Rattle.answers.specs.Work.{phasesCell, heldCell, weightsCell, workCells, Lent}
 use Rattle.answers.specs.Parts.{SameTo, Phased}
-use Rattle.charge.proofs.Ranges.{tasks-few}
 
 -- ---- one store, and what lies below it
 

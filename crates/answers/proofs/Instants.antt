@@ -7,6 +7,7 @@ use native.Mathlib.Omega.{arith}
 use Rattle.table.specs.Limits.{horizon}
 use Rattle.table.specs.Table.{Table, IsTask, period, tasks, task, blocking}
 use Rattle.table.specs.Kept.{Kept}
+use Rattle.table.proofs.Ranges.{kept-period, offset-lt, period-lt, time-lt}
 use Rattle.periods.specs.Phase.{ceil, ceiling}
 use Rattle.periods.specs.Charge.{imposed}
 use Rattle.periods.proofs.Difference.{sub-diff}
@@ -18,11 +19,11 @@ use Rattle.analysis.specs.Bound.{Setting, firstJob, lastJob, jobsTo, demand, bu
 use Rattle.analysis.specs.Needed.{job, start}
 use Rattle.analysis.specs.Walk.{chain, beyond?, never?}
 use Rattle.analysis.proofs.Join.{jobs-by}
-use Rattle.analysis.proofs.Charges.{kept-period, imposed-fair, demand-grows, start-below, job-below-busy, busy-some}
+use Rattle.analysis.proofs.Charges.{imposed-fair, demand-grows, start-below, job-below-busy, busy-some}
 use Rattle.answers.specs.declared.chains.Instant.{Instant}
 use Rattle.answers.specs.Turn.{IsInstant, Near, Reaches, Lasts, stopped}
 use Rattle.answers.proofs.Chain.{Comes, chain-comes}
-use Rattle.charge.proofs.Ranges.{period-lt, offset-lt, time-lt, held-of-lt}
+use Rattle.charge.proofs.Ranges.{held-of-lt}
 use Rattle.answers.proofs.Signed.{mag-diff, mag-shift, times-le}
 
 module _ {tab : Table} (kept : Kept tab) {u a : ℕ} (isTask : IsTask tab u a) where

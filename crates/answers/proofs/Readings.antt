@@ -14,16 +14,16 @@ use Rattle.table.specs.Number.{before, number}
 use Rattle.table.specs.Kept.{Kept}
 use Rattle.table.proofs.Sum.{sum-ext}
 use Rattle.table.proofs.Number.{number-lt}
+use Rattle.table.proofs.Sum.{sum-room}
+use Rattle.table.proofs.Ranges.{kept-period, modes-few, period-lt, tasks-few}
 use Rattle.periods.proofs.Phase.{phase-lt}
 use Rattle.analysis.specs.Charge.{phaseOf, charge}
-use Rattle.analysis.proofs.Charges.{kept-period}
 use Rattle.answers.specs.declared.charges.Subject.{Subject}
 use Rattle.answers.specs.declared.charges.Split.{Split}
 use Rattle.charge.specs.Later.{laterOf}
 use Rattle.charge.specs.Split.{wholePeriods, restOf, restAt, rests, chargeCap}
 use Rattle.charge.specs.Weight.{weight, modeWeight, heldBack}
 use Rattle.charge.specs.Links.{settingNumber, NextSetting}
-use Rattle.charge.proofs.Ranges.{sum-room, tasks-few, modes-few, period-lt}
 use Rattle.charge.proofs.Weights.{weight-lt, mode-weight-le}
 use Rattle.charge.proofs.Split.{rest-le, charge-split, charge-capped}
 use Rattle.charge.proofs.Along.{SettingAt}

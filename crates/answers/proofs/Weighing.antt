@@ -13,14 +13,15 @@ use Rattle.table.specs.Table.{Table, IsTask, transactions, modes}
 use Rattle.table.specs.Limits.{modesMost, tasksMost, tasksInAll}
 use Rattle.table.specs.Number.{number}
 use Rattle.table.specs.Kept.{Kept}
-use Rattle.table.proofs.Sum.{sum-ext}
+use Rattle.table.proofs.Sum.{sum-ext, sum-next, sum-room}
 use Rattle.table.proofs.Number.{number-lt, number-unique}
+use Rattle.table.proofs.Ranges.{modes-few, tasks-few}
 use Rattle.analysis.specs.Charge.{heldOf}
 use Rattle.answers.specs.declared.charges.Subject.{Subject}
 use Rattle.answers.specs.Work.{heldCell, weightsCell, modeWeightsCell, sumsCell, settingsCell, workCells, Lent, Weighs}
 use Rattle.charge.specs.Weight.{weight, modeWeight, heldBack}
 use Rattle.answers.specs.Parts.{SameTo, TasksOf, ModeWeighed, Summed, WeighedTo}
-use Rattle.charge.proofs.Ranges.{sum-next, sum-room, tasks-few, modes-few, held-of-lt}
+use Rattle.charge.proofs.Ranges.{held-of-lt}
 use Rattle.charge.proofs.Weights.{weight-lt}
 use Rattle.answers.proofs.Filling.{stored, same-refl, same-set, same-less, same-cell}
 

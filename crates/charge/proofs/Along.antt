@@ -12,18 +12,18 @@ use Rattle.table.specs.Limits.{horizon, modesMost, tasksInAll}
 use Rattle.table.specs.Table.{Table, IsTask, transactions, period, modes, tasks}
 use Rattle.table.specs.Number.{before, number, inAll}
 use Rattle.table.specs.Kept.{Kept}
-use Rattle.table.proofs.Sum.{sum-le, sum-zero, sum-split}
+use Rattle.table.proofs.Sum.{sum-le, sum-zero, sum-split, sum-next}
 use Rattle.table.proofs.Number.{before-suc, before-grow}
+use Rattle.table.proofs.Ranges.{kept-period, modes-few}
 use Rattle.analysis.specs.Choice.{unless, most}
 use Rattle.analysis.specs.Rival.{rival?}
 use Rattle.analysis.specs.Charge.{phaseOf, heldOf, charge, greatest}
 use Rattle.analysis.proofs.Choice.{when-le, unless-no, most-ge, most-le}
-use Rattle.analysis.proofs.Charges.{kept-period}
 use Rattle.charge.specs.Later.{laterOf}
 use Rattle.charge.specs.Split.{wholePeriods, restAt, rests}
 use Rattle.charge.specs.Weight.{weight, modeWeight, heldBack}
 use Rattle.charge.specs.Links.{settingNumber, Below, Spare, none, dropped, Charged, NextSetting, Idle, own, weightless as idle, NextOther}
-use Rattle.charge.proofs.Ranges.{candidateCharge, otherCharge, modes-few, unless-le, sum-next, others-room}
+use Rattle.charge.proofs.Ranges.{candidateCharge, otherCharge, unless-le, others-room}
 use Rattle.charge.proofs.Weights.{weightless, weighty, greatest-weightless}
 use Rattle.charge.proofs.Split.{rest-mono, charge-split}
 

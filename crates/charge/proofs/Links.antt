@@ -9,9 +9,9 @@ use Rattle.table.specs.Limits.{modesMost}
 use Rattle.table.specs.Number.{inAll, number}
 use Rattle.table.specs.Kept.{Kept}
 use Rattle.table.proofs.Number.{number-lt, number-unique}
+use Rattle.table.proofs.Ranges.{modes-few}
 use Rattle.charge.specs.Weight.{weight}
 use Rattle.charge.specs.Links.{settingNumber, Spare, NextSetting, Idle, NextOther}
-use Rattle.charge.proofs.Ranges.{modes-few}
 
 -- ---- settings
 

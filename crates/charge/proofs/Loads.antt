@@ -6,11 +6,12 @@ use Rattle.table.specs.Sum.{sum}
 use Rattle.table.specs.Limits.{transactionsMost, tasksMost, frameMost}
 use Rattle.table.specs.Table.{Table, transactions, period, modes, tasks, time}
 use Rattle.table.specs.Kept.{Kept}
+use Rattle.table.proofs.Sum.{sum-most, sum-room}
+use Rattle.table.proofs.Ranges.{tasks-few, time-lt}
 use Rattle.analysis.specs.Choice.{when}
 use Rattle.analysis.specs.Rival.{urgent?}
 use Rattle.analysis.specs.Overload.{load, counts?, mostLoad}
 use Rattle.analysis.proofs.Choice.{when-le, most-le}
-use Rattle.charge.proofs.Ranges.{sum-most, sum-room, tasks-few, time-lt}
 
 -- ---- what the loops add up or compare: the time of an urgent task, the load of a mode that counts, what a transaction
 -- demands in one major frame

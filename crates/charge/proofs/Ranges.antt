@@ -3,24 +3,24 @@
 use mathlib.Core.Path.{_≡_}
 use mathlib.Core.Bool.{Bool, true, false}
 use lib.IntN.{pos, _-ℤ_}
-use Prim.Native.Nat.{ℕ, zero, suc, _+_, _-_, _*_, _^_, _≤_, _<_, zero-le, max}
+use Prim.Native.Nat.{ℕ, _+_, _-_, _*_, _^_, _≤_, _<_, zero-le, max}
 use native.Mathlib.Nat.{
-  suc-mul,
   mul-le-mul,
   mul-le-mul-right,
   le-refl,
   le-trans,
   le-mul-of-pos-right,
-  mod-eq-of-lt,
   div-le-self,
 }
 use native.Mathlib.Numerals.{add-one}
-use native.Mathlib.Decide.{decLt, ℕ-discrete}
+use native.Mathlib.Decide.{ℕ-discrete}
 use native.Mathlib.Omega.{arith}
 use Rattle.table.specs.Sum.{sum}
-use Rattle.table.specs.Limits.{horizon, transactionsMost, modesMost, tasksMost}
-use Rattle.table.specs.Table.{Table, IsTask, transactions, period, modes, tasks, task, offset, jitter, time}
+use Rattle.table.specs.Limits.{horizon, transactionsMost, tasksMost}
+use Rattle.table.specs.Table.{Table, IsTask, transactions, period, modes, tasks, jitter, time}
 use Rattle.table.specs.Kept.{Kept}
+use Rattle.table.proofs.Ranges.{kept-period, period-lt, tasks-few, jitter-lt, time-lt}
+use Rattle.table.proofs.Sum.{sum-most, sum-room}
 use Rattle.periods.specs.Phase.{held}
 use Rattle.periods.proofs.Phase.{phase-lt}
 use Rattle.periods.proofs.Charge.{rel, imposed-is, released-is, imp≤rel, ceil-le}
@@ -28,67 +28,17 @@ use Rattle.analysis.specs.Choice.{when, unless, most}
 use Rattle.analysis.specs.Rival.{rival?}
 use Rattle.analysis.specs.Charge.{phaseOf, heldOf, taskCharge, charge, greatest, others, rivals}
 use Rattle.analysis.proofs.Choice.{when-le, most-le}
-use Rattle.analysis.proofs.Charges.{kept-period}
 use Rattle.charge.specs.Later.{laterOf}
 
 -- ---- sums and greatest as a loop makes them
-
-pub sum-next : (n : ℕ) (f : ℕ → ℕ) → sum (n + 1) f ≡ sum n f + f n
-unfolding sum
-sum-next n f = rw (add-one n)
 
 pub most-next : (n : ℕ) (f : ℕ → ℕ) → most (n + 1) f ≡ max (most n f) (f n)
 unfolding most
 most-next n f = rw (add-one n)
 
--- n terms, none above K
-pub sum-most : (n : ℕ) {f : ℕ → ℕ} {K : ℕ} → ((i : ℕ) → i < n → f i ≤ K) → sum n f ≤ n * K
-unfolding sum
-sum-most zero h = zero-le
-sum-most (suc n) {f} {K} h =
-    let rest : sum n f ≤ n * K = sum-most n (λ i l. h i (omega arith)) in
-    let last : f n ≤ K = h n (omega arith) in
-    omega (arith, suc-mul n K)
-
--- and so with term n of N added to those before it
-pub sum-room : {N : ℕ} {f : ℕ → ℕ} {K : ℕ} (n : ℕ) → ((i : ℕ) → i < N → f i ≤ K) → n < N → sum n f + f n ≤ N * K
-unfolding sum
-sum-room {N} {f} {K} n each l =
-    le-trans (sum-most (suc n) {f = f} (λ i k. each i (omega arith))) (mul-le-mul-right K l)
-
 -- ---- the fields
 
-module _ {tab : Table} (kept : Kept tab) {i : ℕ} (h : i < transactions tab) where
-  -- a period divides the major frame, which is not 0
-  pub period-lt : period tab i < 2 ^ 24
-  unfolding period
-  period-lt =
-      elim (decLt (tab .frame) (period tab i)) [
-        | yes l ↦ absurd (omega (arith, mod-eq-of-lt l, kept .each i h .divides, kept .someFrame))
-        | no l ↦ omega (arith, kept .frame)
-      ]
-
-  pub tasks-few : tasks tab i ≤ tasksMost
-  unfolding tasks
-  tasks-few = kept .each i h .fewTasks
-
-  pub modes-few : modes tab i ≤ modesMost
-  unfolding modes
-  modes-few = kept .each i h .fewModes
-
 module _ {tab : Table} (kept : Kept tab) {i j : ℕ} (t : IsTask tab i j) where
-  pub offset-lt : offset tab i j < 2 ^ 24
-  unfolding offset task tasks
-  offset-lt = kept .each i (t .owner) .each j (t .place) .offset
-
-  pub jitter-lt : jitter tab i j < 2 ^ 24
-  unfolding jitter task tasks
-  jitter-lt = kept .each i (t .owner) .each j (t .place) .jitter
-
-  pub time-lt : {m : ℕ} → m < modes tab i → time tab i m j < 2 ^ 24
-  unfolding time task tasks modes
-  time-lt {m} l = kept .each i (t .owner) .each j (t .place) .time m l
-
   pub phase-of-lt : (c : ℕ) → phaseOf tab i c j < 2 ^ 24
   unfolding phaseOf
   phase-of-lt c =
@@ -97,7 +47,7 @@ module _ {tab : Table} (kept : Kept tab) {i j : ℕ} (t : IsTask tab i j) where
 
   pub held-of-lt : (c : ℕ) → heldOf tab i c j < 2 ^ 25
   unfolding heldOf held
-  held-of-lt c = omega (arith, div-le-self (jitter tab i j + phaseOf tab i c j) (period tab i), jitter-lt, phase-of-lt c)
+  held-of-lt c = omega (arith, div-le-self (jitter tab i j + phaseOf tab i c j) (period tab i), jitter-lt kept t, phase-of-lt c)
 
 -- ---- charges
 

@@ -12,13 +12,13 @@ use Rattle.table.specs.Sum.{sum}
 use Rattle.table.specs.Table.{Table, transactions, period, tasks, time}
 use Rattle.table.specs.Kept.{Kept}
 use Rattle.table.proofs.Sum.{sum-le, sum-ext, sum-add, sum-mul}
+use Rattle.table.proofs.Ranges.{kept-period}
 use Rattle.periods.proofs.Phase.{phase-lt}
 use Rattle.periods.proofs.Charge.{imposed-is, released-is}
 use Rattle.periods.proofs.Quotient.{rel-passed, rel-waiting, imp-passed, imp-waiting, imp-first}
 use Rattle.analysis.specs.Choice.{when}
 use Rattle.analysis.specs.Rival.{rival?}
 use Rattle.analysis.specs.Charge.{phaseOf, heldOf, taskCharge, charge}
-use Rattle.analysis.proofs.Charges.{kept-period}
 use Rattle.charge.specs.Later.{laterOf}
 use Rattle.charge.specs.Split.{wholePeriods, restOf, restAt, rests, chargeCap}
 use Rattle.charge.specs.Weight.{weight, modeWeight, heldBack}

@@ -7,13 +7,14 @@ use native.Mathlib.Omega.{arith}
 use Rattle.table.specs.Limits.{tasksMost}
 use Rattle.table.specs.Table.{Table, transactions, modes, tasks, time}
 use Rattle.table.specs.Kept.{Kept}
-use Rattle.table.proofs.Sum.{sum-term}
+use Rattle.table.proofs.Sum.{sum-term, sum-most}
+use Rattle.table.proofs.Ranges.{tasks-few, time-lt}
 use Rattle.analysis.specs.Choice.{when, most}
 use Rattle.analysis.specs.Rival.{Rival, Urgent, rival?}
 use Rattle.analysis.specs.Charge.{Later, heldOf, charge, greatest}
 use Rattle.analysis.proofs.Choice.{when-no, when-le, most-ge, most-le}
 use Rattle.charge.specs.Weight.{weight, modeWeight, heldBack}
-use Rattle.charge.proofs.Ranges.{sum-most, tasks-few, time-lt, held-of-lt}
+use Rattle.charge.proofs.Ranges.{held-of-lt}
 
 -- ---- what weighs something
 

@@ -9,7 +9,6 @@ use native.Mathlib.Omega.{arith}
 use lib.ListN.{length}
 use Rattle.bits.specs.Bits.{isInside}
 use Rattle.table.specs.Sum.{sum}
-use Rattle.table.specs.Limits.{limits}
 use Rattle.table.specs.Fields.{HeaderField, HeadField, TaskField, widthInHeader, widthInHead, widthInTask}
 use Rattle.table.specs.Rules.{rule, headerRules, headRules, taskRules, transactionRules, bodyRules, tableRules}
 use Rattle.refusals.specs.declared.Refusal.{Refusal}

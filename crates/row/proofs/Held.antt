@@ -1,12 +1,11 @@
 -- The fields of the table that any row holds, by the row's cells.
-use mathlib.Core.Path.{_≡_, refl, sym, ap, _∙_}
+use mathlib.Core.Path.{_≡_, refl, ap, _∙_}
 use mathlib.Core.List.{List}
 use Prim.Native.Nat.{ℕ, _+_, _≤_, _<_}
 use native.Mathlib.Omega.{arith}
 use lib.ListN.{getD}
-use Rattle.table.specs.Table.{transactions, transaction, noTransaction, period, modes, tasks, task, noTask, offset, jitter, blocking, deadline, priority, time, IsTask}
+use Rattle.table.specs.Table.{transactions, transaction, period, modes, tasks, task, noTask, offset, jitter, blocking, deadline, priority, time, IsTask}
 use Rattle.table.specs.Number.{before, number}
-use Rattle.table.specs.Lists.{listOf}
 use Rattle.table.proofs.Sum.{sum-ext}
 use Rattle.table.proofs.Lists.{length-listOf, getD-listOf}
 use Rattle.row.specs.Row.{frameCell, countCell, transactionCell, periodCell, modesCell, hasCell, taskCell, offsetCell, jitterCell, blockingCell, deadlineCell, priorityCell, timesCell, taskOf, tasksBefore, transactionOf, tableOf}

@@ -1,12 +1,11 @@
 -- Rows that agree in the cells of a row hold the same table, if it is a kept one: so a longer row that begins with the row
 -- of a kept table holds that table.
-use mathlib.Core.Path.{_≡_, sym, ap, ap₂, _∙_}
+use mathlib.Core.Path.{_≡_, sym, ap, _∙_}
 use mathlib.Core.List.{List}
 use Prim.Native.Nat.{ℕ, _+_, _<_}
 use native.Mathlib.Omega.{arith}
 use lib.ListN.{getD, take}
 use lib.Seq.{getD-take, ext-getD}
-use Rattle.table.specs.Sum.{sum}
 use Rattle.table.specs.Table.{transactions, modes, tasks, IsTask}
 use Rattle.table.specs.Number.{before, number}
 use Rattle.table.specs.Kept.{Kept}

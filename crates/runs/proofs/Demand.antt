@@ -3,6 +3,7 @@ use mathlib.Core.Path.{_≡_}
 use Prim.Native.Nat.{ℕ, _+_}
 use Rattle.table.specs.Table.{Table, IsTask}
 use Rattle.table.specs.Kept.{Kept}
+use Rattle.table.proofs.Ranges.{kept-period}
 use Rattle.periods.specs.Charge.{imposed}
 use Rattle.analysis.specs.Bound.{Bound, Tight}
 use Rattle.analysis.specs.Answer.{Answers, bound, kept}
@@ -10,7 +11,7 @@ use Rattle.analysis.specs.Walk.{answer}
 use Rattle.runs.specs.Run.{Run, Finished, eventTick}
 use Rattle.runs.specs.Legal.{Rules, HoldsWidely}
 use Rattle.runs.specs.Promise.{Safe}
-use Rattle.analysis.proofs.Charges.{kept-period, imposed-fair}
+use Rattle.analysis.proofs.Charges.{imposed-fair}
 use Rattle.analysis.proofs.Response.{bounds}
 use Rattle.analysis.proofs.Answer.{answer-bound}
 use Rattle.analysis.proofs.Whole.{tight}

@@ -1,5 +1,5 @@
 -- What is told of an image: what a task is owed, and cells that are written task by task.
-use mathlib.Core.Path.{_≡_, refl, sym, ap, _∙_, subst, subst₂, ap₂}
+use mathlib.Core.Path.{_≡_, refl, sym, ap, _∙_, subst₂, ap₂}
 use mathlib.Core.List.{List, _++_}
 use Prim.Native.Nat.{ℕ, suc, _+_, _*_, _^_, _≤_, _<_}
 use native.Mathlib.Decide.{decLt}
@@ -7,10 +7,10 @@ use native.Mathlib.Omega.{arith}
 use lib.ListN.{length, drop}
 use lib.Seq.{sets, sets-eq, length-sets}
 use Rattle.table.specs.Table.{Table, IsTask, deadline}
-use Rattle.table.specs.Number.{inAll, number, Place}
+use Rattle.table.specs.Number.{inAll, number}
 use Rattle.table.specs.Lists.{joined}
 use Rattle.table.specs.Kept.{Kept}
-use Rattle.table.proofs.Number.{place, number-lt, number-unique}
+use Rattle.table.proofs.Number.{place, number-unique}
 use Rattle.refusals.specs.declared.Refusal.{Refusal}
 use Rattle.refusals.specs.declared.Answer.the-variants.{Refused}
 use Rattle.refusals.specs.Answer.{answerPlace}

@@ -1,3 +1,4 @@
 pub mod Question
 pub mod Starred
 pub mod Beside
+pub mod Promised

@@ -1,7 +1,7 @@
 -- `fill` writes the cells of task after task. The invariant: the tasks below k have their cells, what lies behind is as it
 -- was, and the working row is the table's. The measure is the number of tasks that are left.
 use mathlib.Core.Path.{_≡_, refl, sym, ap, _∙_}
-use Prim.Native.Nat.{_+_, _-_, _*_, _≤_, _<_, zero-le}
+use Prim.Native.Nat.{_-_, _*_, _≤_, _<_, zero-le}
 use native.Mathlib.Omega.{arith}
 use lib.ListN.{length}
 use denote.Ref.{now}

@@ -2,7 +2,7 @@
 use borrow.Author.Needs.{needs}
 use mathlib.Core.Path.{_∙_}
 use native.Mathlib.Omega.{arith}
-use Rattle.charge.proofs.Ranges.{modes-few}
+use Rattle.table.proofs.Ranges.{modes-few}
 use Rattle.answers.proofs.charges.mode_weight.Statement.{statement}
 use Rattle.answers.proofs.charges.mode_weight.Tie as tie
 

@@ -5,8 +5,8 @@ use native.Mathlib.Omega.{arith}
 use Rattle.table.specs.Limits.{tasksMost, tasksInAll}
 use Rattle.table.specs.Number.{number}
 use Rattle.table.proofs.Number.{number-lt}
+use Rattle.table.proofs.Ranges.{tasks-few}
 use Rattle.row.specs.Row.{tableOf}
-use Rattle.charge.proofs.Ranges.{tasks-few}
 use Rattle.answers.proofs.charges.place.Statement.{statement}
 use Rattle.answers.proofs.charges.place.Tie as tie
 

@@ -3,7 +3,7 @@ use mathlib.Core.Path.{_≡_, refl, _∙_}
 use Prim.Native.Nat.{_-_, _≤_}
 use native.Mathlib.Omega.{arith}
 use Rattle.table.specs.Sum.{sum as sumOf}
-use Rattle.charge.proofs.Ranges.{sum-next}
+use Rattle.table.proofs.Sum.{sum-next}
 use Rattle.answers.proofs.Readings.{restCell, InWork, in-work, rest-needs, rests-in, rests-room}
 use Rattle.answers.proofs.charges.rests.Statement.{statement}
 use Rattle.answers.proofs.charges.rests.Tie as tie

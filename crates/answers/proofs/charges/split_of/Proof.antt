@@ -1,15 +1,15 @@
 -- t by the period: quotient and remainder give t back. Assumes nothing.
 use borrow.Author.Needs.{needs}
-use mathlib.Core.Path.{_≡_, sym, _∙_}
+use mathlib.Core.Path.{sym, _∙_}
 use Prim.Native.Nat.{_<_}
 use native.Mathlib.Omega.{arith}
 use native.Mathlib.Nat.{mod-lt, div-add-mod'}
 use Rattle.table.specs.Limits.{transactionsMost}
 use Rattle.table.specs.Table.{period}
+use Rattle.table.proofs.Ranges.{kept-period}
 use Rattle.row.specs.Row.{firstCell, tableOf}
 use Rattle.row.proofs.Held.{held-period, held-tasks}
 use Rattle.row.proofs.Fields.{head-there, read-first}
-use Rattle.analysis.proofs.Charges.{kept-period}
 use Rattle.answers.specs.Split.{moment}
 use Rattle.answers.proofs.charges.split_of.Statement.{statement}
 use Rattle.answers.proofs.charges.split_of.Tie as tie

@@ -1,8 +1,8 @@
 -- The mode that answers is a later one, and no task weighs less in it. Assumes nothing.
 use Prim.Native.Nat.{_-_, _<_}
 use native.Mathlib.Omega.{arith}
+use Rattle.table.proofs.Ranges.{modes-few}
 use Rattle.answers.proofs.Flags.{never}
-use Rattle.charge.proofs.Ranges.{modes-few}
 use Rattle.answers.proofs.links.is_dropped.Statement.{statement}
 use Rattle.answers.proofs.links.is_dropped.Tie as tie
 

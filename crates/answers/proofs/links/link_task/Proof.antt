@@ -9,11 +9,11 @@ use Rattle.row.specs.Row.{tableOf}
 use Rattle.table.specs.Table.{Table, IsTask, modes as modesIn}
 use Rattle.table.specs.Limits.{modesMost, tasksInAll}
 use Rattle.table.specs.Number.{number}
+use Rattle.table.proofs.Ranges.{modes-few}
 use Rattle.charge.specs.Links.{Spare, NextSetting}
 use Rattle.charge.specs.Weight.{weight}
 use Rattle.answers.specs.Work.{settingsCell, Lent, Weighs}
 use Rattle.answers.specs.Parts.{SameTo}
-use Rattle.charge.proofs.Ranges.{modes-few}
 use Rattle.answers.proofs.Filling.{same-refl, same-set, same-trans}
 use Rattle.answers.proofs.Linking.{weighs-same, LinksFrom, links-put, links-all}
 use Rattle.charge.proofs.Links.{setting-behind, setting-charged, setting-spare}

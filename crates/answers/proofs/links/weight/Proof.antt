@@ -5,8 +5,8 @@ use native.Mathlib.Omega.{arith}
 use Rattle.table.specs.Limits.{modesMost, tasksInAll}
 use Rattle.table.specs.Number.{number}
 use Rattle.table.proofs.Number.{number-lt}
+use Rattle.table.proofs.Ranges.{modes-few}
 use Rattle.row.specs.Row.{tableOf}
-use Rattle.charge.proofs.Ranges.{modes-few}
 use Rattle.answers.proofs.links.weight.Statement.{statement}
 use Rattle.answers.proofs.links.weight.Tie as tie
 

@@ -4,8 +4,8 @@ use Prim.Native.Nat.{_-_, _≤_}
 use native.Mathlib.Omega.{arith}
 use Rattle.row.specs.Row.{tableOf}
 use Rattle.table.specs.Sum.{sum as sumOf}
+use Rattle.table.proofs.Sum.{sum-next}
 use Rattle.analysis.specs.Overload.{frameDemand}
-use Rattle.charge.proofs.Ranges.{sum-next}
 use Rattle.charge.proofs.Loads.{share, demand-room}
 use Rattle.answers.proofs.overload.frame_demand.Statement.{statement}
 use Rattle.answers.proofs.overload.frame_demand.Tie as tie

@@ -1,7 +1,7 @@
 -- The jobs of one major frame, each with the greatest load. Assumes nothing.
 use borrow.Author.Needs.{needs}
 use native.Mathlib.Omega.{arith}
-use Rattle.analysis.proofs.Charges.{kept-period}
+use Rattle.table.proofs.Ranges.{kept-period}
 use Rattle.charge.proofs.Loads.{share-le}
 use Rattle.answers.proofs.overload.share.Statement.{statement}
 use Rattle.answers.proofs.overload.share.Tie as tie

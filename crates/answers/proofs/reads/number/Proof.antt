@@ -1,7 +1,6 @@
 -- A task's number is what the row says of the first of its transaction, and its place there. Assumes nothing.
 use borrow.Author.Needs.{needs}
 use mathlib.Core.Path.{_≡_, _∙_}
-use Prim.Native.Nat.{_+_}
 use native.Mathlib.Omega.{arith}
 use Rattle.table.specs.Number.{before, number}
 use Rattle.table.proofs.Number.{number-lt}

@@ -1,5 +1,5 @@
 -- `walk::is_candidate` meets its contract: the task itself is a candidate, and another is one where it weighs something.
-use mathlib.Core.Path.{_≡_, sym, _∙_}
+use mathlib.Core.Path.{sym, _∙_}
 use mathlib.Core.Logic.{inl}
 use denote.Ref.{now}
 use Rattle.row.specs.Row.{tableOf}

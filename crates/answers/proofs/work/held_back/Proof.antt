@@ -5,7 +5,8 @@ use Prim.Native.Nat.{ℕ, _+_, _-_, _*_, _≤_, _<_}
 use native.Mathlib.Omega.{arith}
 use Rattle.table.specs.Sum.{sum}
 use Rattle.table.specs.Limits.{modesMost, tasksMost, tasksInAll}
-use Rattle.charge.proofs.Ranges.{sum-next, tasks-few}
+use Rattle.table.proofs.Sum.{sum-next}
+use Rattle.table.proofs.Ranges.{tasks-few}
 use Rattle.answers.proofs.Weighing.{small, heldWeight, held-weight-le, held-room, held-back-is}
 use Rattle.answers.proofs.work.held_back.Statement.{statement}
 use Rattle.answers.proofs.work.held_back.Tie as tie

@@ -3,12 +3,12 @@ use borrow.Author.Needs.{needs}
 use mathlib.Core.Path.{_≡_, refl, _∙_}
 use native.Mathlib.Omega.{arith}
 use Rattle.table.specs.Table.{period, jitter}
+use Rattle.table.proofs.Ranges.{jitter-lt, kept-period}
 use Rattle.row.specs.Row.{tableOf}
 use Rattle.row.proofs.Fields.{read-period, read-jitter}
 use Rattle.periods.specs.Phase.{held}
 use Rattle.analysis.specs.Charge.{heldOf}
-use Rattle.analysis.proofs.Charges.{kept-period}
-use Rattle.charge.proofs.Ranges.{jitter-lt, phase-of-lt}
+use Rattle.charge.proofs.Ranges.{phase-of-lt}
 use Rattle.answers.proofs.work.held_of.Statement.{statement}
 use Rattle.answers.proofs.work.held_of.Tie as tie
 

@@ -4,11 +4,10 @@ use mathlib.Core.Path.{_≡_, _∙_}
 use Prim.Native.Nat.{ℕ}
 use native.Mathlib.Omega.{arith}
 use Rattle.table.specs.Table.{period, offset, jitter}
+use Rattle.table.proofs.Ranges.{jitter-lt, kept-period, offset-lt, period-lt}
 use Rattle.row.specs.Row.{tableOf}
 use Rattle.row.proofs.Fields.{read-period, read-offset, read-jitter}
 use Rattle.analysis.specs.Charge.{phaseOf}
-use Rattle.analysis.proofs.Charges.{kept-period}
-use Rattle.charge.proofs.Ranges.{period-lt, offset-lt, jitter-lt}
 use Rattle.answers.proofs.work.phase_of.Statement.{statement}
 use Rattle.answers.proofs.work.phase_of.Tie as tie
 

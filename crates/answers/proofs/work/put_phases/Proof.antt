@@ -7,9 +7,9 @@ use borrow.Author.Needs.{needs}
 use denote.Ref.{now}
 use Rattle.table.specs.Table.{tasks as tasksIn}
 use Rattle.table.specs.Limits.{tasksMost, tasksInAll}
+use Rattle.table.proofs.Ranges.{tasks-few}
 use Rattle.row.specs.Row.{tableOf}
 use Rattle.row.proofs.Fields.{read-tasks}
-use Rattle.charge.proofs.Ranges.{tasks-few}
 use Rattle.answers.proofs.Filling.{PhasesTo, phases-none, phases-next, phases-all}
 use Rattle.answers.proofs.work.put_phases.Statement.{statement}
 use Rattle.answers.proofs.work.put_phases.Tie as tie

@@ -5,9 +5,9 @@ use native.Mathlib.Omega.{arith}
 use Rattle.row.specs.Row.{tableOf}
 use Rattle.table.specs.Limits.{transactionsMost, modesMost, tasksInAll}
 use Rattle.table.specs.Table.{Table}
+use Rattle.table.proofs.Ranges.{modes-few}
 use Rattle.answers.specs.Work.{Lent}
 use Rattle.charge.specs.Weight.{weight}
-use Rattle.charge.proofs.Ranges.{modes-few}
 use Rattle.answers.proofs.Filling.{lent-same}
 use Rattle.answers.proofs.Weighing.{small, WeightsTo, weights-none, weights-room, weights-next, weights-all}
 use Rattle.answers.proofs.work.put_weights.Statement.{statement}

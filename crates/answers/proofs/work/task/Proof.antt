@@ -1,7 +1,7 @@
 -- `task` takes a number apart: the transaction of the task is in the row, and its place there is what the number has beyond the
 -- tasks of the transactions before.
 use borrow.Author.Needs.{needs}
-use mathlib.Core.Path.{_≡_, sym, ap, _∙_}
+use mathlib.Core.Path.{sym, ap, _∙_}
 use Prim.Native.Nat.{ℕ}
 use Rattle.row.specs.Row.{priorityCell, bodyCell}
 use Rattle.row.proofs.Fields.{read-priority}

@@ -6,9 +6,9 @@ use native.Mathlib.Omega.{arith}
 use Rattle.row.specs.Row.{tableOf}
 use Rattle.table.specs.Limits.{modesMost}
 use Rattle.table.specs.Table.{Table, modes as modesIn}
+use Rattle.table.proofs.Ranges.{modes-few}
 use Rattle.answers.specs.Work.{weightsCell, Lent}
 use Rattle.answers.specs.Parts.{SameTo, TasksOf, WeighedTo}
-use Rattle.charge.proofs.Ranges.{modes-few}
 use Rattle.answers.proofs.Filling.{same-refl, same-trans, lent-same}
 use Rattle.answers.proofs.Weighing.{weighed-next}
 use Rattle.answers.proofs.work.weigh_transaction.Statement.{statement}

@@ -8,9 +8,9 @@ use Rattle.table.specs.Limits.{modesMost, tasksInAll}
 use Rattle.table.specs.Number.{number}
 use Rattle.table.specs.Table.{priority}
 use Rattle.table.proofs.Number.{number-lt}
+use Rattle.table.proofs.Ranges.{modes-few}
 use Rattle.row.specs.Row.{taskCell, priorityCell, tableOf}
 use Rattle.row.proofs.Held.{held-priority, held-time}
-use Rattle.charge.proofs.Ranges.{modes-few}
 use Rattle.charge.proofs.Weights.{weight-none, weight-time}
 use Rattle.answers.proofs.work.weight.Statement.{statement}
 use Rattle.answers.proofs.work.weight.Tie as tie

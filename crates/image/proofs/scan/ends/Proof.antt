@@ -1,5 +1,4 @@
 -- `scan::ends` meets its contract.
-use borrow.Author.Needs.{needs}
 use Rattle.image.proofs.scan.ends.Statement.{statement}
 use Rattle.image.proofs.scan.ends.Tie as tie
 

@@ -3,7 +3,6 @@ use Rattle.refusals.specs.Answer.{_then_}
 use mathlib.Core.Path.{sym, _∙_}
 use Rattle.format.proofs.Faults.{image-parts}
 use Rattle.refusals.proofs.Findings.{accepted-is, refused-then}
-use borrow.Author.Needs.{needs}
 use Rattle.image.proofs.scan.first_fault.Statement.{statement}
 use Rattle.image.proofs.scan.first_fault.Tie as tie
 

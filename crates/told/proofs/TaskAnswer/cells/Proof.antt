@@ -1,6 +1,6 @@
 -- `TaskAnswer::cells` gives document 01's code, bound and evaluations of each answer: the test against the deadline is the
 -- one that decides between 0 and 20.
-use mathlib.Core.Path.{sym, ap}
+use mathlib.Core.Path.{sym}
 use native.Mathlib.Omega.{arith}
 use borrow.Author.Needs.{needs}
 use Rattle.analysis.specs.Answer.{cells}
