@@ -27,7 +27,7 @@ use Rattle.told.specs.Answered.{meant}
 
 -- what the code answers for how far a walk came
 abbrev pub answerFor : ℕ → Walked → TaskAnswer
-answerFor budget (Through w) = Bound (w .best) (w .used)
+answerFor budget (Through w) = Bound (w .best .0) (w .used)
 answerFor budget (Past used) = Beyond used
 answerFor budget Broke = Spent budget
 

@@ -3,7 +3,7 @@ use mathlib.Core.Path.{_≡_, ap, _∙_}
 use mathlib.Core.Bool.{Bool, true, false}
 use mathlib.Core.List.{List}
 use Prim.Native.Nat.{ℕ, _+_, _*_, _-_, _^_, _≤_, _<_}
-use native.Mathlib.Nat.{le-trans, mul-le-mul, mul-le-mul-right, le-mul-of-pos-right}
+use native.Mathlib.Nat.{add-zero, le-trans, mul-le-mul, mul-le-mul-right, le-mul-of-pos-right}
 use native.Mathlib.Omega.{arith}
 use lib.ListN.{getD}
 use Rattle.row.specs.Row.{tableOf}
@@ -12,6 +12,7 @@ use Rattle.table.specs.Limits.{modesMost, tasksMost, tasksInAll}
 use Rattle.table.specs.Table.{Table, IsTask, period, modes, tasks}
 use Rattle.table.specs.Number.{before, number}
 use Rattle.table.specs.Kept.{Kept}
+use Rattle.table.proofs.Sum.{sum-ext}
 use Rattle.table.proofs.Number.{number-lt}
 use Rattle.table.proofs.Sum.{sum-room}
 use Rattle.table.proofs.Ranges.{kept-period, modes-few, period-lt, tasks-few}
@@ -26,8 +27,8 @@ use Rattle.charge.specs.Links.{settingNumber, NextSetting}
 use Rattle.charge.proofs.Weights.{weight-lt, mode-weight-le}
 use Rattle.charge.proofs.Split.{rest-le, charge-split, charge-capped}
 use Rattle.charge.proofs.Along.{SettingAt}
-use Rattle.answers.specs.Split.{moment, IsSplit, IsSetting}
-use Rattle.answers.specs.Work.{phasesCell, weightsCell, sumsCell, settingsCell, IsSubject}
+use Rattle.answers.specs.Split.{moment, IsSplit}
+use Rattle.answers.specs.Work.{phasesCell, weightsCell, sumsCell, settingsCell, Lent, IsSubject}
 
 -- ---- ranges
 
@@ -72,86 +73,101 @@ module _ {tab : Table} (kept : Kept tab) {i : ℕ} {x : Split} (split : IsSplit 
 
 -- ---- cells
 
--- a setting: candidate c of transaction i in mode m, at a t that x splits
-module _ {work : List ℕ} {s : Subject} {i m c : ℕ} {x : Split} (setting : IsSetting work s i m c x) where
-  -- what is read of it lies within the cells, and there is a task
-  pub few : (x .first + c < tasksInAll) × ((m < modesMost) × ((1 ≤ x .count) × (x .count ≤ tasksMost)))
-  unfolding number tasks
-  few =
-      let kept = setting .lent .table .kept in
-      let t = setting .isTask in
-      let split = setting .split in
-      let mode = modes-few kept (t .owner) in
-      let n = tasks-few kept (t .owner) in (
-        omega (arith, split .first, number-lt (tableOf work) t, kept .fewTasks),
-        (
-          omega (arith, setting .mode),
-          (omega (arith, split .count, kept .each i (t .owner) .someTask), omega (arith, split .count)),
-        ),
-      )
+-- the rest of task j by its cells
+abbrev pub restCell : List ℕ → Bool → Split → (phases weights j : ℕ) → ℕ
+restCell work whole x phases weights j =
+    restOf whole (x .periods) (x .period) (x .rest) (getD work (phases + j) 0) (getD work (weights + j) 0)
 
-  module _ {j : ℕ} (l : j < x .count) where
-    here : IsTask (tableOf work) i j
-    here = record { owner = setting .isTask .owner; place = omega (arith, setting .split .count) }
+-- what is read of candidate c in mode m lies within the cells, and there is a task
+abbrev pub InWork : Split → (m c : ℕ) → Type 0
+InWork x m c = (x .first + c < tasksInAll) × ((m < modesMost) × ((1 ≤ x .count) × (x .count ≤ tasksMost)))
 
-    pub place-lt : x .first + j < tasksInAll
+module _ {work : List ℕ} (lent : Lent work) {i : ℕ} {x : Split} (split : IsSplit (tableOf work) i x) where
+  pub place-lt : {j : ℕ} → IsTask (tableOf work) i j → x .first + j < tasksInAll
+  unfolding number
+  place-lt {j} t = omega (arith, split .first, number-lt (tableOf work) t, lent .table .kept .fewTasks)
+
+  pub in-work : {m c : ℕ} → IsTask (tableOf work) i c → m < modes (tableOf work) i → InWork x m c
+  unfolding tasks
+  in-work t mode =
+      let kept = lent .table .kept in
+      let m = modes-few kept (t .owner) in
+      let n = tasks-few kept (t .owner) in
+      (place-lt t, (omega arith, (omega (arith, split .count, kept .each i (t .owner) .someTask), omega (arith, split .count))))
+
+  pub phase-at : {c j : ℕ} → IsTask (tableOf work) i c → IsTask (tableOf work) i j → getD work (phasesCell + tasksMost * (x .first + c) + j) 0 ≡ phaseOf (tableOf work) i c j
+  unfolding number
+  phase-at {c} {j} k t = rw (split .first) (lent .phases i c j k t)
+
+  module _ {s : Subject} (subject : IsSubject work s) {m : ℕ} (mode : m < modes (tableOf work) i) where
+    pub weight-at : {j : ℕ} → IsTask (tableOf work) i j → getD work (weightsCell + tasksInAll * m + (x .first + j)) 0 ≡ weight (tableOf work) (s .u) (s .a) i m j
     unfolding number
-    place-lt = omega (arith, setting .split .first, number-lt (tableOf work) here, setting .lent .table .kept .fewTasks)
+    weight-at {j} t = rw (split .first) (subject .weighs .weight i m j t mode)
 
-    phase-at : getD work (phasesCell + tasksMost * (x .first + c) + j) 0 ≡ phaseOf (tableOf work) i c j
-    unfolding number
-    phase-at = rw (setting .split .first) (setting .lent .phases i c j (setting .isTask) here)
-
-    weight-at : getD work (weightsCell + tasksInAll * m + (x .first + j)) 0 ≡ weight (tableOf work) (s .u) (s .a) i m j
-    unfolding number
-    weight-at = rw (setting .split .first) (setting .subject .weighs .weight i m j here (setting .mode))
+    -- the same cell as the code adds it up
+    weight-in : {j : ℕ} → IsTask (tableOf work) i j → getD work (weightsCell + tasksInAll * m + x .first + j) 0 ≡ weight (tableOf work) (s .u) (s .a) i m j
+    weight-in {j} t =
+        let e : weightsCell + tasksInAll * m + x .first + j ≡ weightsCell + tasksInAll * m + (x .first + j) = omega arith in
+        ap (λ (n : ℕ). getD work n 0) e ∙ weight-at t
 
     -- the cells of task j are as `rest_of` requires
     pub rest-needs :
-        (x .period < 2 ^ 24)
+        {c : ℕ}
+        → IsTask (tableOf work) i c
+        → (j : ℕ)
+        → j < x .count
+        → (x .period < 2 ^ 24)
         × ((x .rest < x .period)
         × ((getD work (phasesCell + tasksMost * (x .first + c) + j) 0 < x .period)
-        × (getD work (weightsCell + tasksInAll * m + (x .first + j)) 0 < 2 ^ 24)))
-    rest-needs =
-        let kept = setting .lent .table .kept in
-        let owner = setting .isTask .owner in (
-          omega (arith, setting .split .period, period-lt kept owner),
-          (
-            setting .split .below,
-            (rw phase-at (phase-of-below kept (setting .split) c j), rw weight-at (weight-lt kept (s .u) (s .a) owner (setting .mode) j (here .place))),
-          ),
+        × (getD work (weightsCell + tasksInAll * m + x .first + j) 0 < 2 ^ 24)))
+    rest-needs {c} k j l =
+        let kept = lent .table .kept in
+        let own : j < tasks (tableOf work) i = omega (arith, split .count) in
+        let t : IsTask (tableOf work) i j = record { owner = k .owner; place = own } in (
+          omega (arith, split .period, period-lt kept (k .owner)),
+          (split .below, (rw (phase-at k t) (phase-of-below kept split c j), rw (weight-in t) (weight-lt kept (s .u) (s .a) (k .owner) mode j own))),
         )
 
-    -- and what it gives is the rest of the task
-    pub rest-is : (whole : Bool) → restOf whole (x .periods) (x .period) (x .rest) (getD work (phasesCell + tasksMost * (x .first + c) + j) 0) (getD work (weightsCell + tasksInAll * m + (x .first + j)) 0) ≡ restAt whole (tableOf work) (s .u) (s .a) i m c (x .periods) (x .rest) j
-    unfolding restAt
-    rest-is whole = rw (phase-at, weight-at, setting .split .period)
+    -- the rest of a task by its cells, and of all tasks
+    module _ {c : ℕ} (k : IsTask (tableOf work) i c) (whole : Bool) where
+      abbrev restIn : ℕ → ℕ
+      restIn j = restCell work whole x (phasesCell + tasksMost * (x .first + c)) (weightsCell + tasksInAll * m + x .first) j
 
-  module _ (whole : Bool) where
-    rest-small : (j : ℕ) → j < tasks (tableOf work) i → restAt whole (tableOf work) (s .u) (s .a) i m c (x .periods) (x .rest) j ≤ 2 ^ 25
-    unfolding restAt
-    rest-small j l =
-        omega (
-          arith,
-          rest-le whole (x .periods) (period (tableOf work) i) (x .rest) (phaseOf (tableOf work) i c j) (weight (tableOf work) (s .u) (s .a) i m j),
-          weight-lt (setting .lent .table .kept) (s .u) (s .a) (setting .isTask .owner) (setting .mode) j l,
-        )
+      -- the first task's cells are read without an offset
+      pub rest-first : restIn 0 ≡ restOf whole (x .periods) (x .period) (x .rest) (getD work (phasesCell + tasksMost * (x .first + c)) 0) (getD work (weightsCell + tasksInAll * m + x .first) 0)
+      rest-first = rw (add-zero (phasesCell + tasksMost * (x .first + c)), add-zero (weightsCell + tasksInAll * m + x .first))
 
-    -- the rests with the next one
-    pub rests-room : (j : ℕ) → j < x .count → sum j (restAt whole (tableOf work) (s .u) (s .a) i m c (x .periods) (x .rest)) + restAt whole (tableOf work) (s .u) (s .a) i m c (x .periods) (x .rest) j ≤ tasksMost * 2 ^ 25
-    rests-room j l =
-        omega (arith, sum-room {f = restAt whole (tableOf work) (s .u) (s .a) i m c (x .periods) (x .rest)} j rest-small (omega (arith, setting .split .count)), tasks-few (setting .lent .table .kept) (setting .isTask .owner))
+      rest-in : {j : ℕ} → IsTask (tableOf work) i j → restIn j ≡ restAt whole (tableOf work) (s .u) (s .a) i m c (x .periods) (x .rest) j
+      unfolding restAt
+      rest-in {j} t = rw (phase-at k t, weight-in t, split .period)
 
-    pub rests-all : (n : ℕ) → n ≡ x .count → sum n (restAt whole (tableOf work) (s .u) (s .a) i m c (x .periods) (x .rest)) ≡ rests whole (tableOf work) (s .u) (s .a) i m c (x .periods) (x .rest)
-    unfolding rests
-    rests-all n e = ap (λ (k : ℕ). sum k (restAt whole (tableOf work) (s .u) (s .a) i m c (x .periods) (x .rest))) (e ∙ setting .split .count)
+      pub rests-in : (n : ℕ) → n ≡ x .count → sum n restIn ≡ rests whole (tableOf work) (s .u) (s .a) i m c (x .periods) (x .rest)
+      unfolding rests
+      rests-in n e =
+          ap (λ (n : ℕ). sum n restIn) (e ∙ split .count) ∙ sum-ext (tasks (tableOf work) i) {f = restIn} (λ j l. rest-in (record { owner = k .owner; place = l }))
 
-  pub sum-at :
-      getD work (sumsCell + 2 * (modesMost * (x .first + c) + m)) 0
-      + getD work (sumsCell + 2 * (modesMost * (x .first + c) + m) + 1) 0 * 2 ^ 32
-      ≡ heldBack (tableOf work) (s .u) (s .a) i m c
-  unfolding number
-  sum-at = rw (setting .split .first) (setting .subject .weighs .sum i m c (setting .isTask) (setting .mode))
+      rest-in-le : (j : ℕ) → j < tasks (tableOf work) i → restIn j ≤ 2 ^ 25
+      unfolding restAt
+      rest-in-le j l =
+          omega (
+            arith,
+            rest-in {j = j} (record { owner = k .owner; place = l }),
+            rest-le whole (x .periods) (period (tableOf work) i) (x .rest) (phaseOf (tableOf work) i c j) (weight (tableOf work) (s .u) (s .a) i m j),
+            weight-lt (lent .table .kept) (s .u) (s .a) (k .owner) mode j l,
+          )
+
+      pub rests-room : (j : ℕ) → j < x .count → sum j restIn + restIn j ≤ tasksMost * 2 ^ 25
+      rests-room j l =
+          omega (arith, sum-room {f = restIn} j rest-in-le (omega (arith, split .count)), tasks-few (lent .table .kept) (k .owner))
+
+    pub sum-at :
+        {c : ℕ}
+        → IsTask (tableOf work) i c
+        → getD work (sumsCell + 2 * (modesMost * (x .first + c) + m)) 0
+        + getD work (sumsCell + 2 * (modesMost * (x .first + c) + m) + 1) 0 * 2 ^ 32
+        ≡ heldBack (tableOf work) (s .u) (s .a) i m c
+    unfolding number
+    sum-at {c} t = rw (split .first) (subject .weighs .sum i m c t mode)
 
 -- the links that stand there: from the first setting of a transaction, and from behind a setting
 module _ {work : List ℕ} {s : Subject} (subject : IsSubject work s) {i : ℕ} where

@@ -53,7 +53,7 @@ onward-keeps most walk.Walked.short rest h k = tt
 -- the code came through with x, and there is this more to walk
 pub record Going (budget : ℕ) (whole : walk.Walked) (rest : ℕ → ℕ → walk.Walked) (x : Walk) : Type 0 where
   pub within : x .used ≤ budget
-  pub same : rest (budget - x .used) (x .best) ≡ whole
+  pub same : rest (budget - x .used) (x .best .0) ≡ whole
 
 -- rest is that first step and then the others
 pub record Steps (rest first others : ℕ → ℕ → walk.Walked) : Type 0 where
@@ -72,17 +72,17 @@ stays (Through x) k = ⊎-elim (λ e. omega arith) (λ e. omega arith) k
 stays (Past used) k = tt
 stays Broke k = tt
 
-module _ {budget : ℕ} {whole : walk.Walked} {rest first others : ℕ → ℕ → walk.Walked} {x : Walk} (going : Going budget whole rest x) (split : Steps rest first others) {step : Walked} (is : step ≡ walked budget (first (budget - x .used) (x .best))) where
+module _ {budget : ℕ} {whole : walk.Walked} {rest first others : ℕ → ℕ → walk.Walked} {x : Walk} (going : Going budget whole rest x) (split : Steps rest first others) {step : Walked} (is : step ≡ walked budget (first (budget - x .used) (x .best .0))) where
   pub going-on : {next : Walk} → step ≡ Through next → Going budget whole others next
   unfolding walked
   going-on {next} e =
-      go (first (budget - x .used) (x .best)) (split .keeps budget (budget - x .used) (x .best) (omega arith)) (sym (split .is (budget - x .used) (x .best)) ∙ going .same) (sym is ∙ e)
+      go (first (budget - x .used) (x .best .0)) (split .keeps budget (budget - x .used) (x .best .0) (omega arith)) (sym (split .is (budget - x .used) (x .best .0)) ∙ going .same) (sym is ∙ e)
     where
       go : (w : walk.Walked) → Keeps budget w → onward w others ≡ whole → walked budget w ≡ Through next → Going budget whole others next
       go (through left best) k s d =
-          let e : record { used = budget - left; best = best } ≡ next = cc in
+          let e : record { used = budget - left; best = record { 0 = best } } ≡ next = cc in
           let u : budget - left ≡ next .used = ap (λ (y : Walk). y .used) e in
-          let b : best ≡ next .best = ap (λ (y : Walk). y .best) e in
+          let b : best ≡ next .best .0 = ap (λ (y : Walk). y .best .0) e in
           record { within = omega arith; same = ap₂ others (omega arith) (sym b) ∙ s }
       go (past left) k s d = let z : _≡_ {A = ℕ} 0 1 = cc in absurd (omega arith)
       go walk.Walked.short k s d = let z : _≡_ {A = ℕ} 0 1 = cc in absurd (omega arith)
@@ -90,7 +90,7 @@ module _ {budget : ℕ} {whole : walk.Walked} {rest first others : ℕ → ℕ �
   pub going-stops : Stays step → step ≡ walked budget whole
   unfolding walked
   going-stops h =
-      go (first (budget - x .used) (x .best)) (sym (split .is (budget - x .used) (x .best)) ∙ going .same) is
+      go (first (budget - x .used) (x .best .0)) (sym (split .is (budget - x .used) (x .best .0)) ∙ going .same) is
     where
       go : (w : walk.Walked) → onward w others ≡ whole → step ≡ walked budget w → step ≡ walked budget whole
       go (through left best) s d = absurd (subst Stays d h)
@@ -101,7 +101,7 @@ pub going-ends : {budget : ℕ} {whole : walk.Walked} {rest : ℕ → ℕ → wa
 unfolding walked
 going-ends {budget} {whole} {rest} {x} going none =
     let back : x .used ≡ budget - (budget - x .used) = omega (arith, going .within) in
-    let e : whole ≡ through (budget - x .used) (x .best) = sym (going .same) ∙ none (budget - x .used) (x .best) in
+    let e : whole ≡ through (budget - x .used) (x .best .0) = sym (going .same) ∙ none (budget - x .used) (x .best .0) in
     rw e (ap (λ (n : ℕ). Through (record { used = n; best = x .best })) back)
 
 -- a loop that counts to n: at i there are n − i steps to do
@@ -141,7 +141,7 @@ after-stopped budget rest (ended (came w) left) k = ap (λ (l : ℕ). walked bud
 after-stopped budget rest (ended over left) k = refl
 after-stopped budget rest walk.Stop.short k = refl
 
-after-through : (budget : ℕ) (best : ℕ → ℕ) (s : walk.Stop) → walked budget (after (λ w left. through left (best w)) s) ≡ afterStop (λ w used. Through (record { used = used; best = best (w .0) })) (stopped budget s)
+after-through : (budget : ℕ) (best : ℕ → ℕ) (s : walk.Stop) → walked budget (after (λ w left. through left (best w)) s) ≡ afterStop (λ w used. Through (record { used = used; best = record { 0 = best (w .0) } })) (stopped budget s)
 unfolding walked stopped
 after-through budget best (ended (came w) left) = refl
 after-through budget best (ended over left) = refl
@@ -195,7 +195,7 @@ module _ (later : Later) (tab : Table) (u a m c : ℕ) where
       ap (λ (k : ℕ). walkJobs later tab u a m c k N left best) none
 
   -- one job, by how its chain stopped
-  pub job-walked : (budget N left best : ℕ) → walked budget (walkJobs later tab u a m c 1 N left best) ≡ afterStop (λ w used. Through (record { used = used; best = max best (count (response tab u a c (job tab u a c N) (w .0))) })) (jobStop later tab u a m c budget N left)
+  pub job-walked : (budget N left best : ℕ) → walked budget (walkJobs later tab u a m c 1 N left best) ≡ afterStop (λ w used. Through (record { used = used; best = record { 0 = max best (count (response tab u a c (job tab u a c N) (w .0))) } })) (jobStop later tab u a m c budget N left)
   unfolding walkJobs
   job-walked budget N left best =
       ap (walked budget) (jobs-after zero N left best)

@@ -58,7 +58,7 @@ stopped budget walk.Stop.short = Short
 
 -- how far a walk came, as the code says it
 unfoldable pub walked : (budget : ℕ) → walk.Walked → Walked
-walked budget (through left best) = Through (record { used = budget - left; best = best })
+walked budget (through left best) = Through (record { used = budget - left; best = record { 0 = best } })
 walked budget (past left) = Past (budget - left)
 walked budget walk.Walked.short = Broke
 

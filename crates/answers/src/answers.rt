@@ -29,7 +29,7 @@ fn answer(row: &[u32; Work::CELLS], s: Subject, budget: u32) -> TaskAnswer
         return TaskAnswer::Overload;
     }
     match Walk::new().modes(row, s, budget) {
-        Walked::Through(end) => TaskAnswer::Bound(end.best as u32, end.used),
+        Walked::Through(end) => TaskAnswer::Bound(end.best.0 as u32, end.used),
         Walked::Past(used) => TaskAnswer::Beyond(used),
         Walked::Broke => TaskAnswer::Spent(budget),
     }

@@ -4,6 +4,7 @@ use super::charges;
 use super::charges::Subject;
 use super::layout::Work;
 use super::quantity::JobNumber;
+use super::quantity::Jobs;
 use super::quantity::Ticks;
 use super::reads;
 use row::Table;
@@ -42,11 +43,11 @@ pub(crate) enum Stop {
 }
 
 // The first job number, 1 − the number of jobs held back.
-fn first_job(held: u64) -> JobNumber
-    requires { ⌜ held < 2 ^ 32 ⌝ }
-    ensures { λ r. ⌜ r .0 ≡ pos 1 -ℤ pos held ⌝ }
+fn first_job(held: Jobs) -> JobNumber
+    requires { ⌜ held .0 < 2 ^ 32 ⌝ }
+    ensures { λ r. ⌜ r .0 ≡ pos 1 -ℤ pos (held .0) ⌝ }
 {
-    JobNumber(1 - held as i64)
+    JobNumber(1 - held.0 as i64)
 }
 
 pub(crate) fn instant_of(work: &[u32; Work::CELLS], s: Subject, m: usize, c: usize) -> Instant
@@ -62,7 +63,7 @@ pub(crate) fn instant_of(work: &[u32; Work::CELLS], s: Subject, m: usize, c: usi
         offset: Ticks(reads::offset(work, s.u, s.a)),
         blocking: Ticks(reads::blocking(work, s.u, s.a)),
         time: Ticks(reads::time(work, s.u, m, s.a)),
-        phase: Ticks(charges::phase_of(work, s.u, c, s.a)),
+        phase: charges::phase_of(work, s.u, c, s.a),
         first: first_job(charges::held_of(work, s.u, c, s.a)),
     }
 }
@@ -83,15 +84,15 @@ pub(crate) fn last_job(period: Ticks, phase: Ticks, t: Ticks) -> JobNumber
 }
 
 // The number of jobs from the first to p.
-pub(crate) fn jobs_to(first: JobNumber, p: JobNumber) -> u64
+pub(crate) fn jobs_to(first: JobNumber, p: JobNumber) -> Jobs
     requires { ⌜ Near (first .0) ⌝ }
     requires { ⌜ Near (p .0) ⌝ }
-    ensures { λ r. ⌜ r ≡ count (p .0 -ℤ first .0 +ℤ pos 1) ⌝ }
+    ensures { λ r. ⌜ r .0 ≡ count (p .0 -ℤ first .0 +ℤ pos 1) ⌝ }
 {
     if p.0 < first.0 {
-        return 0;
+        return Jobs(0);
     }
-    (p.0 - first.0 + 1) as u64
+    Jobs((p.0 - first.0 + 1) as u64)
 }
 
 // B + (p − p0 + 1)·C
@@ -103,7 +104,7 @@ fn start(x: Instant, p: JobNumber) -> Ticks
     ensures { λ r. ⌜ r .0 ≡ x .blocking .0 + count (p .0 -ℤ x .first .0 +ℤ pos 1) * x .time .0 ⌝ }
 {
     let first = x.first;
-    Ticks(x.blocking.0 + jobs_to(first, p) * x.time.0)
+    Ticks(x.blocking.0 + jobs_to(first, p).0 * x.time.0)
 }
 
 // The demand of the jobs to p, and of the rivals, at t.
@@ -155,14 +156,14 @@ pub(crate) fn busy_chain(
 {
     let horizon = reads::wide(Table::horizon());
     let mut made = used;
-    let mut t: u64 = 1;
+    let mut t = Ticks(1);
     while made < budget {
-        let value = busy(work, s, x, Ticks(t)).0;
+        let value = busy(work, s, x, t);
         made += 1;
-        if value == t {
-            return Stop::Came(Ticks(t), made);
+        if value.0 == t.0 {
+            return Stop::Came(t, made);
         }
-        if horizon < value {
+        if horizon < value.0 {
             return Stop::Over(made);
         }
         t = value;
@@ -188,12 +189,12 @@ pub(crate) fn job_chain(
     ensures { λ r. ⌜ r ≡ stopped budget (chain (demand imposed (tableOf (now (work .entry))) (s .u) (s .a) (x .mode) (x .candidate) (p .0)) never? (budget - used) (start (tableOf (now (work .entry))) (s .u) (s .a) (x .mode) (x .candidate) (p .0))) ⌝ }
 {
     let mut made = used;
-    let mut t = start(x, p).0;
+    let mut t = start(x, p);
     while made < budget {
-        let value = demand(work, s, x, false, p, Ticks(t)).0;
+        let value = demand(work, s, x, false, p, t);
         made += 1;
-        if value == t {
-            return Stop::Came(Ticks(t), made);
+        if value.0 == t.0 {
+            return Stop::Came(t, made);
         }
         t = value;
     }

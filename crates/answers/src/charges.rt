@@ -2,6 +2,7 @@
 // otherwise they charge what they impose. Phases, weights and their sums are read from the work cells, and t is
 // split by the period once for each transaction. What lies below `rivals` may become faster; its contract stays.
 use super::layout::Work;
+use super::quantity::Jobs;
 use super::quantity::Ticks;
 use super::reads;
 use row::Table;
@@ -14,7 +15,7 @@ ghost use Rattle.table.specs.Number.{number};
 ghost use Rattle.table.specs.Table.{IsTask, transactions, modes};
 ghost use Rattle.analysis.specs.Charge.{phaseOf, heldOf, charge, greatest, rivals};
 ghost use Rattle.charge.specs.Later.{laterOf};
-ghost use Rattle.charge.specs.Split.{wholePeriods, restOf, restAt, rests, chargeCap};
+ghost use Rattle.charge.specs.Split.{wholePeriods, restOf, rests, chargeCap};
 ghost use Rattle.answers.specs.Split.{moment, IsSplitAt, IsSetting};
 ghost use Rattle.answers.specs.Work.{Lent, Weighs, IsSubject};
 ghost use Rattle.charge.specs.Weight.{weight, modeWeight, heldBack};
@@ -38,23 +39,23 @@ fn place(work: &[u32; Work::CELLS], i: usize, c: usize, j: usize) -> usize
 }
 
 // Phase of task j when candidate c sets the critical instant.
-pub(crate) fn phase_of(work: &[u32; Work::CELLS], i: usize, c: usize, j: usize) -> u64
+pub(crate) fn phase_of(work: &[u32; Work::CELLS], i: usize, c: usize, j: usize) -> Ticks
     requires { ⌜ Lent (now work) ⌝ }
     requires { ⌜ IsTask (tableOf (now work)) i c ⌝ }
     requires { ⌜ IsTask (tableOf (now work)) i j ⌝ }
-    ensures { λ r. ⌜ r ≡ phaseOf (tableOf (now (work .entry))) i c j ⌝ }
+    ensures { λ r. ⌜ r .0 ≡ phaseOf (tableOf (now (work .entry))) i c j ⌝ }
 {
-    reads::wide(work[Work::PHASES + place(work, i, c, j)])
+    Ticks(reads::wide(work[Work::PHASES + place(work, i, c, j)]))
 }
 
 // Jobs of task j held back to the instant.
-pub(crate) fn held_of(work: &[u32; Work::CELLS], i: usize, c: usize, j: usize) -> u64
+pub(crate) fn held_of(work: &[u32; Work::CELLS], i: usize, c: usize, j: usize) -> Jobs
     requires { ⌜ Lent (now work) ⌝ }
     requires { ⌜ IsTask (tableOf (now work)) i c ⌝ }
     requires { ⌜ IsTask (tableOf (now work)) i j ⌝ }
-    ensures { λ r. ⌜ r ≡ heldOf (tableOf (now (work .entry))) i c j ⌝ }
+    ensures { λ r. ⌜ r .0 ≡ heldOf (tableOf (now (work .entry))) i c j ⌝ }
 {
-    reads::wide(work[Work::HELD + place(work, i, c, j)])
+    Jobs(reads::wide(work[Work::HELD + place(work, i, c, j)]))
 }
 
 pub(crate) fn greater(x: u64, y: u64) -> u64
@@ -125,26 +126,6 @@ fn rest_of(x: Split, whole: bool, phase: u32, weight: u32) -> u32
     lesser(x.rest + x.period - phase, weight)
 }
 
-// What task j does for candidate c in mode m.
-fn rest_at(
-    work: &[u32; Work::CELLS],
-    s: Subject,
-    whole: bool,
-    i: usize,
-    m: usize,
-    c: usize,
-    x: Split,
-    j: usize,
-) -> u32
-    requires { ⌜ IsSetting (now work) s i m c x ⌝ }
-    requires { ⌜ j < x .count ⌝ }
-    ensures { λ r. ⌜ r ≡ restAt whole (tableOf (now (work .entry))) (s .u) (s .a) i m c (x .periods) (x .rest) j ⌝ }
-{
-    let phase = work[Work::PHASES + Transaction::TASKS * (x.first + c) + j];
-    let weight = work[Work::WEIGHTS + Table::TASKS * m + (x.first + j)];
-    rest_of(x, whole, phase, weight)
-}
-
 // What all its tasks do.
 fn rests(
     work: &[u32; Work::CELLS],
@@ -158,11 +139,13 @@ fn rests(
     requires { ⌜ IsSetting (now work) s i m c x ⌝ }
     ensures { λ r. ⌜ r ≡ rests whole (tableOf (now (work .entry))) (s .u) (s .a) i m c (x .periods) (x .rest) ⌝ }
 {
+    let phases = Work::PHASES + Transaction::TASKS * (x.first + c);
+    let weights = Work::WEIGHTS + Table::TASKS * m + x.first;
     let count = x.count;
     let mut sum: u32 = 0;
     let mut j: usize = 0;
     while j < count {
-        sum += rest_at(work, s, whole, i, m, c, x, j);
+        sum += rest_of(x, whole, work[phases + j], work[weights + j]);
         j += 1;
     }
     sum
@@ -182,15 +165,17 @@ fn few_rests(
     requires { ⌜ x .count < 4 ⌝ }
     ensures { λ r. ⌜ r ≡ rests whole (tableOf (now (work .entry))) (s .u) (s .a) i m c (x .periods) (x .rest) ⌝ }
 {
-    let one = rest_at(work, s, whole, i, m, c, x, 0);
+    let phases = Work::PHASES + Transaction::TASKS * (x.first + c);
+    let weights = Work::WEIGHTS + Table::TASKS * m + x.first;
+    let one = rest_of(x, whole, work[phases], work[weights]);
     if x.count == 1 {
         return one;
     }
-    let two = one + rest_at(work, s, whole, i, m, c, x, 1);
+    let two = one + rest_of(x, whole, work[phases + 1], work[weights + 1]);
     if x.count == 2 {
         return two;
     }
-    two + rest_at(work, s, whole, i, m, c, x, 2)
+    two + rest_of(x, whole, work[phases + 2], work[weights + 2])
 }
 
 // What the jobs held back to candidate c's instant weigh.
@@ -222,8 +207,7 @@ fn whole_periods(whole: bool, periods: u64) -> u64
     if periods == 0 { 0 } else { periods - 1 }
 }
 
-// A transaction's charge for (c, mode) sums its rivals: `rest` is what they charge beside what is held back and the whole
-// periods.
+// A transaction's charge for (c, mode) sums its rivals.
 fn charge(
     work: &[u32; Work::CELLS],
     s: Subject,
@@ -232,14 +216,33 @@ fn charge(
     m: usize,
     c: usize,
     x: Split,
-    rest: u32,
 ) -> Ticks
     requires { ⌜ IsSetting (now work) s i m c x ⌝ }
-    requires { ⌜ rest ≡ rests whole (tableOf (now work)) (s .u) (s .a) i m c (x .periods) (x .rest) ⌝ }
     ensures { λ r. ⌜ r .0 ≡ charge (laterOf whole) (tableOf (now (work .entry))) (s .u) (s .a) i m c (moment x) ⌝ }
 {
     let passed = whole_periods(whole, x.periods) * mode_weight(work, s, i, m);
-    Ticks(held_back(work, s, i, m, c, x) + passed + reads::wide(rest))
+    let rest = reads::wide(rests(work, s, whole, i, m, c, x));
+    Ticks(held_back(work, s, i, m, c, x) + passed + rest)
+}
+
+// The same for a transaction of at most three tasks: a copy, since the compiler no longer takes one function for both into
+// its caller, and an evaluation is then a fifth slower.
+fn few_charge(
+    work: &[u32; Work::CELLS],
+    s: Subject,
+    whole: bool,
+    i: usize,
+    m: usize,
+    c: usize,
+    x: Split,
+) -> Ticks
+    requires { ⌜ IsSetting (now work) s i m c x ⌝ }
+    requires { ⌜ x .count < 4 ⌝ }
+    ensures { λ r. ⌜ r .0 ≡ charge (laterOf whole) (tableOf (now (work .entry))) (s .u) (s .a) i m c (moment x) ⌝ }
+{
+    let passed = whole_periods(whole, x.periods) * mode_weight(work, s, i, m);
+    let rest = reads::wide(few_rests(work, s, whole, i, m, c, x));
+    Ticks(held_back(work, s, i, m, c, x) + passed + rest)
 }
 
 // The most that a transaction can charge for (c, mode): a period more than the whole ones.
@@ -266,15 +269,13 @@ fn setting_charge(
     ensures { λ r. ⌜ r ≡ max best (charge (laterOf whole) (tableOf (now (work .entry))) (s .u) (s .a) i m c (moment x)) ⌝ }
 {
     if x.count < 4 {
-        let rest = few_rests(work, s, whole, i, m, c, x);
-        return greater(best, charge(work, s, whole, i, m, c, x, rest).0);
+        return greater(best, few_charge(work, s, whole, i, m, c, x).0);
     }
     let most = charge_cap(work, s, i, m, c, x);
     if most <= best {
         return best;
     }
-    let rest = rests(work, s, whole, i, m, c, x);
-    greater(best, charge(work, s, whole, i, m, c, x, rest).0)
+    greater(best, charge(work, s, whole, i, m, c, x).0)
 }
 
 // The greatest charge of another transaction, over its modes and candidates: over the settings that are charged.
@@ -322,6 +323,5 @@ pub(crate) fn rivals(
         i = reads::index(work[Work::OTHERS + (i + 1)]);
     }
     let own = split_of(work, s.u, t);
-    let rest = rests(work, s, whole, s.u, m, c, own);
-    Ticks(charge(work, s, whole, s.u, m, c, own, rest).0 + sum)
+    Ticks(charge(work, s, whole, s.u, m, c, own).0 + sum)
 }

@@ -8,6 +8,7 @@ use super::charges::greater;
 use super::layout::Work;
 use super::links;
 use super::quantity::JobNumber;
+use super::quantity::Jobs;
 use super::quantity::Moment;
 use super::quantity::Ticks;
 use super::reads;
@@ -30,7 +31,7 @@ ghost use Rattle.answers.specs.Work.{Lent, IsSubject};
 // The evaluations made so far, and the greatest response so far.
 pub(crate) struct Walk {
     pub(crate) used: u32,
-    pub(crate) best: u64,
+    pub(crate) best: Ticks,
 }
 
 // How far a walk came: through, past the horizon, or short of budget.
@@ -51,30 +52,30 @@ fn arrival(period: Ticks, phase: Ticks, p: JobNumber) -> Moment
 }
 
 // The response of job p that completes at w, cut at 0.
-fn response(x: Instant, p: JobNumber, w: Ticks) -> u64
+fn response(x: Instant, p: JobNumber, w: Ticks) -> Ticks
     requires { ⌜ x .period .0 < 2 ^ 24 ⌝ }
     requires { ⌜ x .phase .0 < 2 ^ 24 ⌝ }
     requires { ⌜ x .offset .0 < 2 ^ 24 ⌝ }
     requires { ⌜ Near (p .0) ⌝ }
     requires { ⌜ w .0 ≤ horizon ⌝ }
-    ensures { λ r. ⌜ r ≡ count (pos (w .0) -ℤ (pos (x .phase .0) +ℤ (p .0 -ℤ pos 1) *ℤ pos (x .period .0)) +ℤ pos (x .offset .0)) ⌝ }
+    ensures { λ r. ⌜ r .0 ≡ count (pos (w .0) -ℤ (pos (x .phase .0) +ℤ (p .0 -ℤ pos 1) *ℤ pos (x .period .0)) +ℤ pos (x .offset .0)) ⌝ }
 {
     let period = x.period;
     let phase = x.phase;
     let since = w.0 as i64 - arrival(period, phase, p).0 + x.offset.0 as i64;
     if since < 0 {
-        return 0;
+        return Ticks(0);
     }
-    since as u64
+    Ticks(since as u64)
 }
 
 // The N-th job counted from the first.
-fn job(first: JobNumber, n: u64) -> JobNumber
+fn job(first: JobNumber, n: Jobs) -> JobNumber
     requires { ⌜ Near (first .0) ⌝ }
-    requires { ⌜ n < 2 ^ 26 ⌝ }
-    ensures { λ r. ⌜ r .0 ≡ first .0 +ℤ pos n ⌝ }
+    requires { ⌜ n .0 < 2 ^ 26 ⌝ }
+    ensures { λ r. ⌜ r .0 ≡ first .0 +ℤ pos (n .0) ⌝ }
 {
-    JobNumber(first.0 + n as i64)
+    JobNumber(first.0 + n.0 as i64)
 }
 
 // Whether task c is a candidate of the subject in mode m.
@@ -96,9 +97,12 @@ fn is_candidate(work: &[u32; Work::CELLS], s: Subject, m: usize, c: usize) -> bo
 
 impl Walk {
     pub(crate) fn new() -> Walk
-        ensures { λ r. ⌜ (r .used ≡ 0) × (r .best ≡ 0) ⌝ }
+        ensures { λ r. ⌜ (r .used ≡ 0) × (r .best .0 ≡ 0) ⌝ }
     {
-        Walk { used: 0, best: 0 }
+        Walk {
+            used: 0,
+            best: Ticks(0),
+        }
     }
 
     // One job: its chain, and its response.
@@ -107,24 +111,24 @@ impl Walk {
         work: &[u32; Work::CELLS],
         s: Subject,
         x: Instant,
-        n: u64,
-        jobs: u64,
+        n: Jobs,
+        jobs: Jobs,
         budget: u32,
     ) -> Walked
         requires { ⌜ Lent (now work) ⌝ }
         requires { ⌜ IsSubject (now work) s ⌝ }
         requires { ⌜ IsInstant (tableOf (now work)) (s .u) (s .a) (x .mode) (x .candidate) x ⌝ }
-        requires { ⌜ Lasts (tableOf (now work)) (s .u) (s .a) (x .mode) (x .candidate) jobs ⌝ }
-        requires { ⌜ n < jobs ⌝ }
+        requires { ⌜ Lasts (tableOf (now work)) (s .u) (s .a) (x .mode) (x .candidate) (jobs .0) ⌝ }
+        requires { ⌜ n .0 < jobs .0 ⌝ }
         requires { ⌜ self .used ≤ budget ⌝ }
-        ensures { λ r. ⌜ r ≡ walked budget (walkJobs imposed (tableOf (now (work .entry))) (s .u) (s .a) (x .mode) (x .candidate) 1 n (budget - self .used) (self .best)) ⌝ }
+        ensures { λ r. ⌜ r ≡ walked budget (walkJobs imposed (tableOf (now (work .entry))) (s .u) (s .a) (x .mode) (x .candidate) 1 (n .0) (budget - self .used) (self .best .0)) ⌝ }
     {
         let first = x.first;
         let p = job(first, n);
         match chains::job_chain(work, s, x, p, budget, self.used) {
             Stop::Came(w, used) => Walked::Through(Walk {
                 used,
-                best: greater(self.best, response(x, p, w)),
+                best: Ticks(greater(self.best.0, response(x, p, w).0)),
             }),
             Stop::Over(used) => Walked::Past(used),
             Stop::Short => Walked::Broke,
@@ -137,20 +141,21 @@ impl Walk {
         work: &[u32; Work::CELLS],
         s: Subject,
         x: Instant,
-        jobs: u64,
+        jobs: Jobs,
         budget: u32,
     ) -> Walked
         requires { ⌜ Lent (now work) ⌝ }
         requires { ⌜ IsSubject (now work) s ⌝ }
         requires { ⌜ IsInstant (tableOf (now work)) (s .u) (s .a) (x .mode) (x .candidate) x ⌝ }
-        requires { ⌜ Lasts (tableOf (now work)) (s .u) (s .a) (x .mode) (x .candidate) jobs ⌝ }
+        requires { ⌜ Lasts (tableOf (now work)) (s .u) (s .a) (x .mode) (x .candidate) (jobs .0) ⌝ }
         requires { ⌜ self .used ≤ budget ⌝ }
-        ensures { λ r. ⌜ r ≡ walked budget (walkJobs imposed (tableOf (now (work .entry))) (s .u) (s .a) (x .mode) (x .candidate) jobs 0 (budget - self .used) (self .best)) ⌝ }
+        ensures { λ r. ⌜ r ≡ walked budget (walkJobs imposed (tableOf (now (work .entry))) (s .u) (s .a) (x .mode) (x .candidate) (jobs .0) 0 (budget - self .used) (self .best .0)) ⌝ }
     {
+        let count = jobs.0;
         let mut state = self;
         let mut n: u64 = 0;
-        while n < jobs {
-            let step = state.job(work, s, x, n, jobs, budget);
+        while n < count {
+            let step = state.job(work, s, x, Jobs(n), jobs, budget);
             let Walked::Through(next) = step else {
                 return step;
             };
@@ -166,7 +171,7 @@ impl Walk {
         requires { ⌜ IsSubject (now work) s ⌝ }
         requires { ⌜ Setting (tableOf (now work)) (s .u) (s .a) m c ⌝ }
         requires { ⌜ self .used ≤ budget ⌝ }
-        ensures { λ r. ⌜ r ≡ walked budget (walkTurn imposed (tableOf (now (work .entry))) (s .u) (s .a) (record { mode = m; candidate = c }) (budget - self .used) (self .best)) ⌝ }
+        ensures { λ r. ⌜ r ≡ walked budget (walkTurn imposed (tableOf (now (work .entry))) (s .u) (s .a) (record { mode = m; candidate = c }) (budget - self .used) (self .best .0)) ⌝ }
     {
         let x = chains::instant_of(work, s, m, c);
         match chains::busy_chain(work, s, x, budget, self.used) {
@@ -175,10 +180,8 @@ impl Walk {
                 let phase = x.phase;
                 let first = x.first;
                 let jobs = chains::jobs_to(first, chains::last_job(period, phase, length));
-                Walk {
-                    used,
-                    best: self.best,
-                }.jobs(work, s, x, jobs, budget)
+                let best = self.best;
+                Walk { used, best }.jobs(work, s, x, jobs, budget)
             }
             Stop::Over(used) => Walked::Past(used),
             Stop::Short => Walked::Broke,
@@ -200,7 +203,7 @@ impl Walk {
         requires { ⌜ Runs (tableOf (now work)) (s .u) m (s .a) ⌝ }
         requires { ⌜ c < tasks (tableOf (now work)) (s .u) ⌝ }
         requires { ⌜ self .used ≤ budget ⌝ }
-        ensures { λ r. ⌜ r ≡ walked budget (walkTurns imposed (tableOf (now (work .entry))) (s .u) (s .a) (turnsFrom (tableOf (now (work .entry))) (s .u) (s .a) m c 1) (budget - self .used) (self .best)) ⌝ }
+        ensures { λ r. ⌜ r ≡ walked budget (walkTurns imposed (tableOf (now (work .entry))) (s .u) (s .a) (turnsFrom (tableOf (now (work .entry))) (s .u) (s .a) m c 1) (budget - self .used) (self .best .0)) ⌝ }
     {
         if is_candidate(work, s, m, c) {
             self.turn(work, s, m, c, budget)
@@ -215,7 +218,7 @@ impl Walk {
         requires { ⌜ IsSubject (now work) s ⌝ }
         requires { ⌜ m < modes (tableOf (now work)) (s .u) ⌝ }
         requires { ⌜ self .used ≤ budget ⌝ }
-        ensures { λ r. ⌜ r ≡ walked budget (walkTurns imposed (tableOf (now (work .entry))) (s .u) (s .a) (modeTurns (tableOf (now (work .entry))) (s .u) (s .a) m) (budget - self .used) (self .best)) ⌝ }
+        ensures { λ r. ⌜ r ≡ walked budget (walkTurns imposed (tableOf (now (work .entry))) (s .u) (s .a) (modeTurns (tableOf (now (work .entry))) (s .u) (s .a) m) (budget - self .used) (self .best .0)) ⌝ }
     {
         if reads::time(work, s.u, m, s.a) == 0 {
             return Walked::Through(self);
@@ -239,7 +242,7 @@ impl Walk {
         requires { ⌜ Lent (now work) ⌝ }
         requires { ⌜ IsSubject (now work) s ⌝ }
         requires { ⌜ self .used ≤ budget ⌝ }
-        ensures { λ r. ⌜ r ≡ walked budget (walkTurns imposed (tableOf (now (work .entry))) (s .u) (s .a) (walkOrder (tableOf (now (work .entry))) (s .u) (s .a)) (budget - self .used) (self .best)) ⌝ }
+        ensures { λ r. ⌜ r ≡ walked budget (walkTurns imposed (tableOf (now (work .entry))) (s .u) (s .a) (walkOrder (tableOf (now (work .entry))) (s .u) (s .a)) (budget - self .used) (self .best .0)) ⌝ }
     {
         let count = reads::modes(work, s.u);
         let mut state = self;

@@ -14,8 +14,8 @@ use Rattle.answers.proofs.chains.busy_chain.Tie as tie
 
 abbrev Inv-loop : tie.InvT-loop
 Inv-loop work s x budget used most made₀ t₀ made t =
-    Left (busy (tableOf work) (s .u) (s .a) (x .mode) (x .candidate)) beyond? budget used 1 made t
-    × ((1 ≤ t) × (t ≤ horizon))
+    Left (busy (tableOf work) (s .u) (s .a) (x .mode) (x .candidate)) beyond? budget used 1 made (t .0)
+    × ((1 ≤ t .0) × (t .0 ≤ horizon))
 
 abbrev μ-loop : tie.MeasureT-loop
 μ-loop work s x budget used most made₀ t₀ made t = budget - made
@@ -41,25 +41,28 @@ add-made c = omega arith
 
 returns : tie.Need-returns Inv-loop μ-loop
 returns c =
-    left-came _ beyond? (c .before .before .before .loop .inv .0) (c .before .before .loop-test .taken)
-    (sym (c .before .busy .ensures) ∙ c .if1 .taken)
+    let b = c .before .before .before in
+    left-came _ beyond? (b .before .before .loop .inv .0) (b .before .loop-test .taken) (sym (b .busy .ensures) ∙ c .if1 .taken)
 
 returns-2 : tie.Need-returns-2 Inv-loop μ-loop
 returns-2 c =
-    left-over _ beyond? (c .before .before .before .before .loop .inv .0) (c .before .before .before .loop-test .taken)
-    (λ e. c .before .if1 .left (c .before .before .busy .ensures ∙ e))
-    (rw (← c .before .before .busy .ensures) (omega arith))
+    let l = c .before .before in
+    let b = l .before .before .before in
+    left-over _ beyond? (b .before .before .loop .inv .0) (b .before .loop-test .taken) (λ e. l .if1 .left (b .busy .ensures ∙ e))
+    (rw (← b .busy .ensures) (omega arith))
 
 loop-less : tie.Need-loop-less Inv-loop μ-loop
 loop-less c = omega arith
 
 loop-again : tie.Need-loop-again Inv-loop μ-loop
 loop-again c =
-    let (lent, (subject, (turn, within))) = c .before .before .before .before .before .before .before .pre in
-    let inv = c .before .before .before .before .loop .inv in
-    let value = c .before .before .busy .ensures in
-    let short : c .before .before .busy .result .0 ≤ horizon = omega arith in (
-      rw value (left-on _ beyond? (inv .0) (c .before .before .before .loop-test .taken) (λ e. c .before .if1 .left (value ∙ e)) (λ o. omega arith)),
+    let l = c .before .before in
+    let b = l .before .before .before in
+    let (lent, (subject, (turn, within))) = b .before .before .before .before .before .pre in
+    let inv = b .before .before .loop .inv in
+    let value = b .busy .ensures in
+    let short : b .busy .result .0 ≤ horizon = omega arith in (
+      rw value (left-on _ beyond? (inv .0) (b .before .loop-test .taken) (λ e. l .if1 .left (value ∙ e)) (λ o. omega arith)),
       (rw value (busy-some (lent .table .kept) (subject .chosen .isTask) (turn .setting) (inv .1 .0)), short),
     )
 

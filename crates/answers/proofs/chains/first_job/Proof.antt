@@ -11,12 +11,12 @@ cast-t2 c = search needs
 
 sub-t3 : tie.Need-sub-t3
 sub-t3 c =
-    rw (unsigned (c .args .held) (omega arith)) (small (omega (arith, mag-sub (pos 1) (pos (c .args .held)))))
+    rw (unsigned (c .before .args .held .0) (omega arith)) (small (omega (arith, mag-sub (pos 1) (pos (c .before .args .held .0)))))
 
 returns : tie.Need-returns
 returns c =
-    rw (unsigned (c .args .held) (omega arith))
-    (back (pos 1 -ℤ pos (c .args .held)) (omega (arith, mag-sub (pos 1) (pos (c .args .held)))))
+    rw (unsigned (c .before .args .held .0) (omega arith))
+    (back (pos 1 -ℤ pos (c .before .args .held .0)) (omega (arith, mag-sub (pos 1) (pos (c .before .args .held .0)))))
 
 pub first-job-spec : {M : Type 1} → statement M
 first-job-spec = tie.close (tie.spec cast-t2 sub-t3 returns)

@@ -17,8 +17,8 @@ use Rattle.answers.proofs.chains.job_chain.Tie as tie
 
 abbrev Inv-loop : tie.InvT-loop
 Inv-loop work s x p budget used made₀ t₀ made t =
-    Left (demand imposed (tableOf work) (s .u) (s .a) (x .mode) (x .candidate) (p .0)) never? budget used (start (tableOf work) (s .u) (s .a) (x .mode) (x .candidate) (p .0)) made t
-    × ((reaches : Reaches (tableOf work) (s .u) (s .a) (x .mode) (x .candidate) (p .0)) → t ≤ reaches .t)
+    Left (demand imposed (tableOf work) (s .u) (s .a) (x .mode) (x .candidate) (p .0)) never? budget used (start (tableOf work) (s .u) (s .a) (x .mode) (x .candidate) (p .0)) made (t .0)
+    × ((reaches : Reaches (tableOf work) (s .u) (s .a) (x .mode) (x .candidate) (p .0)) → t .0 ≤ reaches .t)
 
 abbrev μ-loop : tie.MeasureT-loop
 μ-loop work s x p budget used made₀ t₀ made t = budget - made
@@ -44,19 +44,21 @@ add-made c = omega arith
 
 returns : tie.Need-returns Inv-loop μ-loop
 returns c =
-    left-came _ never? (c .before .before .before .loop .inv .0) (c .before .before .loop-test .taken)
-    (sym (c .before .demand .ensures) ∙ c .if1 .taken)
+    let b = c .before .before .before in
+    left-came _ never? (b .before .before .loop .inv .0) (b .before .loop-test .taken) (sym (b .demand .ensures) ∙ c .if1 .taken)
 
 loop-less : tie.Need-loop-less Inv-loop μ-loop
 loop-less c = omega arith
 
 loop-again : tie.Need-loop-again Inv-loop μ-loop
 loop-again c =
-    let (lent, (subject, (turn, (near, (reaches, within))))) = c .before .before .before .before .before .pre in
-    let inv = c .before .before .before .loop .inv in
-    let value = c .before .demand .ensures in (
-      rw value (left-on _ never? (inv .0) (c .before .before .loop-test .taken) (λ e. c .if1 .left (value ∙ e)) (λ o. o)),
-      λ r. rw value (reaches-on (lent .table .kept) (subject .chosen .isTask) r (c .before .before .before .loop .t) (inv .1 r)),
+    let b = c .before .before .before in
+    let l = b .before .before in
+    let (lent, (subject, (turn, (near, (reaches, within))))) = l .before .before .pre in
+    let inv = l .loop .inv in
+    let value = b .demand .ensures in (
+      rw value (left-on _ never? (inv .0) (b .before .loop-test .taken) (λ e. c .if1 .left (value ∙ e)) (λ o. o)),
+      λ r. rw value (reaches-on (lent .table .kept) (subject .chosen .isTask) r (l .loop .t .0) (inv .1 r)),
     )
 
 returns-2 : tie.Need-returns-2 Inv-loop μ-loop

@@ -17,8 +17,8 @@ returns c =
     let a = c .before .before .before .before .before .args in
     sym (jobs-none (a .p .0) (a .first .0) (rw (back (a .p .0) (omega arith), back (a .first .0) (omega arith)) at (c .if1 .taken)))
 
-sub-result : tie.Need-sub-result
-sub-result c =
+sub-t4 : tie.Need-sub-t4
+sub-t4 c =
     let a = c .before .before .before .before .before .before .before .before .before .args in
     rw (back (a .p .0) (omega arith), back (a .first .0) (omega arith))
     (small (omega (arith, mag-sub (a .p .0) (a .first .0))))
@@ -34,8 +34,8 @@ module _ (p f : ℤ) (hp : mag p < 2 ^ 26) (hf : mag f < 2 ^ 26) where
   read : toZ w64 (ofZ w64 (toZ w64 (ofZ w64 (toZ w64 (ofZ w64 p) -ℤ toZ w64 (ofZ w64 f))) +ℤ pos 1)) ≡ p -ℤ f +ℤ pos 1
   read = rw (back p (omega arith), back f (omega arith), back (p -ℤ f) less) (back (p -ℤ f +ℤ pos 1) fits)
 
-add-result : tie.Need-add-result
-add-result c =
+add-t5 : tie.Need-add-t5
+add-t5 c =
     let a = c .before .before .before .before .before .before .before .before .before .args in
     rw (back (a .p .0) (omega arith), back (a .first .0) (omega arith), back (a .p .0 -ℤ a .first .0) (less (a .p .0) (a .first .0) (omega arith) (omega arith)))
     (small (fits (a .p .0) (a .first .0) (omega arith) (omega arith)))
@@ -45,8 +45,8 @@ not-below c =
     let a = c .before .before .before .before .before .before .before .before .before .args in
     jobs-some (a .p .0) (a .first .0) (rw (back (a .p .0) (omega arith), back (a .first .0) (omega arith)) at (c .before .before .before .before .if1 .left))
 
-cast-result : tie.Need-cast-result
-cast-result c =
+cast-t6 : tie.Need-cast-t6
+cast-t6 c =
     let a = c .before .before .before .before .before .before .before .before .before .args in
     rw (read (a .p .0) (a .first .0) (omega arith) (omega arith))
     (not-below c, abs-fits (a .p .0 -ℤ a .first .0 +ℤ pos 1) (fits (a .p .0) (a .first .0) (omega arith) (omega arith)))
@@ -57,4 +57,4 @@ returns-2 c =
     rw (read (a .p .0) (a .first .0) (omega arith) (omega arith)) (count-abs _ (not-below c))
 
 pub jobs-to-spec : {M : Type 1} → statement M
-jobs-to-spec = tie.close (tie.spec returns sub-result add-result cast-result returns-2)
+jobs-to-spec = tie.close (tie.spec returns sub-t4 add-t5 cast-t6 returns-2)

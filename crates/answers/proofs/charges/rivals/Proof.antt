@@ -1,20 +1,17 @@
 -- The loop sums what the other transactions before i charge: i is the next of them that has a rival. With the charge of u
 -- the sum stays far below 2 ^ 64. Assumes nothing.
 use borrow.Author.Needs.{needs}
-use mathlib.Core.Path.{_≡_, ap, ap₂, _∙_}
-use Prim.Native.Nat.{ℕ, _+_, _-_, _<_}
+use mathlib.Core.Path.{_≡_}
+use Prim.Native.Nat.{_+_, _-_, _<_}
 use native.Mathlib.Omega.{arith}
 use lib.ListN.{getD}
 use Rattle.row.specs.Row.{tableOf}
 use Rattle.table.specs.Limits.{transactionsMost}
 use Rattle.table.specs.Table.{transactions}
-use Rattle.table.specs.Sum.{sum}
-use Rattle.analysis.specs.Charge.{charge, others, rivals}
-use Rattle.charge.specs.Later.{laterOf}
+use Rattle.analysis.specs.Charge.{others, rivals}
 use Rattle.charge.specs.Links.{NextOther}
-use Rattle.answers.specs.Split.{IsSetting}
 use Rattle.answers.specs.Work.{othersCell}
-use Rattle.charge.proofs.Ranges.{otherCharge, rivals-lt}
+use Rattle.charge.proofs.Ranges.{rivals-lt}
 use Rattle.charge.proofs.Along.{Others, others-first, others-few, others-next}
 use Rattle.answers.proofs.charges.rivals.Statement.{statement}
 use Rattle.answers.proofs.charges.rivals.Tie as tie
@@ -91,38 +88,29 @@ split-of-requires c κs =
     let pre = c .before .before .before .before .before .pre in
     (pre .0 .table, (pre .1 .1 .0 .owner, pre .1 .1 .1 .1))
 
--- the own transaction, at the t that is split
-own :
-    (c : tie.After-split-of Inv-loop μ-loop)
-    → let s = c .before .before .before .before .before .before in
-    IsSetting (s .args .work .now) (s .args .s) (s .args .s .u) (s .args .m) (s .args .c) (c .split-of .result)
-own c =
-    let (lent, (subject, (isTask, (mode, short)))) = c .before .before .before .before .before .before .pre in
-    record { lent = lent; subject = subject; isTask = isTask; mode = mode; split = c .split-of .ensures .isSplit }
-
-rests-requires : tie.Need-rests-requires Inv-loop μ-loop
-rests-requires c κs = own c
-
 charge-requires : tie.Need-charge-requires Inv-loop μ-loop
-charge-requires c κs = (own (c .before), c .rests .ensures)
+charge-requires c κs =
+    let pre = c .before .before .before .before .before .before .pre in
+    record {
+      lent = pre .0;
+      subject = pre .1 .0;
+      isTask = pre .1 .1 .0;
+      mode = pre .1 .1 .1 .0;
+      split = c .split-of .ensures .isSplit;
+    }
 
 returns : tie.Need-returns Inv-loop μ-loop
 unfolding rivals others
 returns c =
-    let l = c .before .before .before .before in
-    let charges = l .before .loop .inv in
+    let charges = c .before .before .before .before .loop .inv in
     let charged = c .before .charge .ensures in
-    let at = c .before .before .before .split-of .ensures .at in
-    let t = l .before .before .before .before in
-    let a = t .before .args in
-    let tab = tableOf (a .work .now) in
-    let all : l .before .loop .i ≡ transactions tab = omega (arith, charges .within, t .transactions .ensures) in
-    ap₂ _+_ (charged ∙ ap (charge (laterOf (a .whole)) tab (a .s .u) (a .s .a) (a .s .u) (a .m) (a .c)) at)
-    (charges .sum ∙ ap (λ (n : ℕ). sum n (otherCharge (a .whole) tab (a .s .u) (a .s .a) (a .t .0))) all)
+    let at = c .before .before .split-of .ensures .at in
+    let all : c .before .before .before .before .loop .i ≡ transactions (tableOf (c .before .before .before .before .before .before .before .before .args .work .now)) = omega (arith, charges .within, c .before .before .before .before .before .before .before .transactions .ensures) in
+    cc (charges .sum)
 
-add-t24 : tie.Need-add-t24 Inv-loop μ-loop
-add-t24 c =
-    let s = c .before .before .before .before .before .before .before .before .before in
+add-t23 : tie.Need-add-t23 Inv-loop μ-loop
+add-t23 c =
+    let s = c .before .before .before .before .before .before .before .before in
     let few = rivals-lt (s .pre .0 .table .kept) (s .args .whole) (s .pre .1 .1 .1 .1) (s .args .s .u) (s .args .s .a) (s .pre .1 .1 .0 .owner) (s .pre .1 .1 .1 .0) in
     omega (arith, returns c, few (s .args .c))
 
@@ -146,7 +134,6 @@ rivals-spec =
     loop-less
     loop-again
     split-of-requires
-    rests-requires
     charge-requires
-    add-t24
+    add-t23
     returns)

@@ -1,15 +1,13 @@
--- A setting whose cap is not above the best is not greater. Assumes nothing.
+-- A work whose ceiling is not above the best is not greater. Assumes nothing.
 use borrow.Author.Needs.{needs}
 use native.Mathlib.Omega.{arith}
 use Rattle.answers.proofs.Readings.{charge-at-most}
 use Rattle.answers.proofs.charges.setting_charge.Statement.{statement}
 use Rattle.answers.proofs.charges.setting_charge.Tie as tie
 
-few-rests-requires : tie.Need-few-rests-requires
-few-rests-requires c κs = (c .before .before .pre, omega arith)
-
-charge-requires : tie.Need-charge-requires
-charge-requires c κs = (c .before .before .before .pre, c .few-rests .ensures)
+few-charge-requires : tie.Need-few-charge-requires
+few-charge-requires c κs =
+    (c .before .before .pre, omega arith)
 
 greater-requires : tie.Need-greater-requires
 greater-requires c κs = search needs
@@ -18,7 +16,7 @@ returns : tie.Need-returns
 returns c = search needs
 
 charge-cap-requires : tie.Need-charge-cap-requires
-charge-cap-requires c κs = c .before .before .pre
+charge-cap-requires c κs = search needs
 
 returns-2 : tie.Need-returns-2
 returns-2 c =
@@ -30,11 +28,8 @@ returns-2 c =
       charge-at-most (setting .lent .table .kept) (setting .split) (s .args .whole) (s .args .s .u) (s .args .s .a) (s .args .m) (s .args .c),
     )
 
-rests-requires : tie.Need-rests-requires
-rests-requires c κs = c .before .before .before .before .pre
-
-charge-requires-2 : tie.Need-charge-requires-2
-charge-requires-2 c κs = (c .before .before .before .before .before .pre, c .rests .ensures)
+charge-requires : tie.Need-charge-requires
+charge-requires c κs = search needs
 
 greater-requires-2 : tie.Need-greater-requires-2
 greater-requires-2 c κs = search needs
@@ -46,13 +41,11 @@ pub setting-charge-spec : {M : Type 1} → statement M
 setting-charge-spec =
     tie.close
     (tie.spec
-    few-rests-requires
-    charge-requires
+    few-charge-requires
     greater-requires
     returns
     charge-cap-requires
     returns-2
-    rests-requires
-    charge-requires-2
+    charge-requires
     greater-requires-2
     returns-3)

@@ -11,15 +11,15 @@ cast-t3 c = search needs
 
 add-t4 : tie.Need-add-t4
 add-t4 c =
-    let a = c .before .before .args in
-    rw (back (a .first .0) (omega arith), unsigned (a .n) (omega arith))
-    (small (omega (arith, mag-add (a .first .0) (pos (a .n)))))
+    let a = c .before .before .before .args in
+    rw (back (a .first .0) (omega arith), unsigned (a .n .0) (omega arith))
+    (small (omega (arith, mag-add (a .first .0) (pos (a .n .0)))))
 
 returns : tie.Need-returns
 returns c =
-    let a = c .before .before .args in
-    rw (back (a .first .0) (omega arith), unsigned (a .n) (omega arith))
-    (back (a .first .0 +ℤ pos (a .n)) (omega (arith, mag-add (a .first .0) (pos (a .n)))))
+    let a = c .before .before .before .args in
+    rw (back (a .first .0) (omega arith), unsigned (a .n .0) (omega arith))
+    (back (a .first .0 +ℤ pos (a .n .0)) (omega (arith, mag-add (a .first .0) (pos (a .n .0)))))
 
 pub job-spec : {M : Type 1} → statement M
 job-spec = tie.close (tie.spec cast-t3 add-t4 returns)

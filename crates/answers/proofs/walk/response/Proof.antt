@@ -75,8 +75,8 @@ not-below c =
     let z : ℤ = since (a .w .0) (a .x .offset .0) (d .arrival .result .0) in
     not-neg z (rw (r .sum, back z (r .sum-small)) at (c .if1 .left))
 
-cast-result : tie.Need-cast-result
-cast-result c =
+cast-t12 : tie.Need-cast-t12
+cast-t12 c =
     let d = c .before .before .before .before in
     let a = d .before .before .before .before .args in
     let r = read d in
@@ -101,5 +101,5 @@ response-spec =
     cast-since-2
     add-since
     returns
-    cast-result
+    cast-t12
     returns-2)

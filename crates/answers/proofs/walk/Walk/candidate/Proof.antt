@@ -26,7 +26,7 @@ turn-requires c κs =
 returns : tie.Need-returns
 returns c =
     let a = c .before .before .before .args in
-    rw (candidate-yes imposed (tableOf (now (a .work))) (a .s .u) (a .s .a) (a .m) (a .c) (a .budget - a .self .used) (a .self .best) (is (c .before)))
+    rw (candidate-yes imposed (tableOf (now (a .work))) (a .s .u) (a .s .a) (a .m) (a .c) (a .budget - a .self .used) (a .self .best .0) (is (c .before)))
     (c .turn .ensures)
 
 returns-2 : tie.Need-returns-2

@@ -31,10 +31,10 @@ abbrev tab : tie.Start → Table
 tab c = tableOf (now (c .args .work))
 
 -- the job's number
-number : (c : tie.After-job) → let d = c .before .before in let a = d .args in c .job .result .0 ≡ job (tab d) (a .s .u) (a .s .a) (a .x .candidate) (a .n)
+number : (c : tie.After-job) → let d = c .before .before in let a = d .args in c .job .result .0 ≡ job (tab d) (a .s .u) (a .s .a) (a .x .candidate) (a .n .0)
 number c =
     let (lent, (subject, (turn, (lasts, (l, within))))) = c .before .before .pre in
-    c .job .ensures ∙ instant-job (lent .table .kept) (subject .chosen .isTask) turn (c .before .before .args .n)
+    c .job .ensures ∙ instant-job (lent .table .kept) (subject .chosen .isTask) turn (c .before .before .args .n .0)
 
 near : (c : tie.After-job) → Near (c .job .result .0)
 near c =
@@ -55,12 +55,12 @@ enum-known-w : tie.Need-enum-known-w
 enum-known-w c = search needs
 
 -- one step of the walk, by how the chain stopped
-step : (c : tie.After-job-chain) → let d = c .before .before .before in let a = d .args in walked (a .budget) (walkJobs imposed (tab d) (a .s .u) (a .s .a) (a .x .mode) (a .x .candidate) 1 (a .n) (a .budget - a .self .used) (a .self .best)) ≡ afterStop (λ w used. Through (record { used = used; best = max (a .self .best) (count (response (tab d) (a .s .u) (a .s .a) (a .x .candidate) (job (tab d) (a .s .u) (a .s .a) (a .x .candidate) (a .n)) (w .0))) })) (c .job-chain .result)
+step : (c : tie.After-job-chain) → let d = c .before .before .before in let a = d .args in walked (a .budget) (walkJobs imposed (tab d) (a .s .u) (a .s .a) (a .x .mode) (a .x .candidate) 1 (a .n .0) (a .budget - a .self .used) (a .self .best .0)) ≡ afterStop (λ w used. Through (record { used = used; best = record { 0 = max (a .self .best .0) (count (response (tab d) (a .s .u) (a .s .a) (a .x .candidate) (job (tab d) (a .s .u) (a .s .a) (a .x .candidate) (a .n .0)) (w .0))) } })) (c .job-chain .result)
 step c =
     let d = c .before .before .before in
     let a = d .args in
-    let stop : c .job-chain .result ≡ jobStop imposed (tab d) (a .s .u) (a .s .a) (a .x .mode) (a .x .candidate) (a .budget) (a .n) (a .budget - a .self .used) = rw (number (c .before)) at (c .job-chain .ensures) in
-    rw stop (job-walked imposed (tab d) (a .s .u) (a .s .a) (a .x .mode) (a .x .candidate) (a .budget) (a .n) (a .budget - a .self .used) (a .self .best))
+    let stop : c .job-chain .result ≡ jobStop imposed (tab d) (a .s .u) (a .s .a) (a .x .mode) (a .x .candidate) (a .budget) (a .n .0) (a .budget - a .self .used) = rw (number (c .before)) at (c .job-chain .ensures) in
+    rw stop (job-walked imposed (tab d) (a .s .u) (a .s .a) (a .x .mode) (a .x .candidate) (a .budget) (a .n .0) (a .budget - a .self .used) (a .self .best .0))
 
 -- where t came back it is within the horizon
 short : (c : tie.After-w) → c .w .given .0 .0 .0 ≤ horizon
@@ -92,7 +92,7 @@ enum-told : tie.Need-enum-told
 enum-told c = search needs
 
 -- the response of the job
-answer : (c : tie.After-response) → let d = c .before .before .before .before .before .before .before in let a = d .args in c .response .result ≡ count (response (tab d) (a .s .u) (a .s .a) (a .x .candidate) (job (tab d) (a .s .u) (a .s .a) (a .x .candidate) (a .n)) (c .before .before .w .given .0 .0 .0))
+answer : (c : tie.After-response) → let d = c .before .before .before .before .before .before .before in let a = d .args in c .response .result .0 ≡ count (response (tab d) (a .s .u) (a .s .a) (a .x .candidate) (job (tab d) (a .s .u) (a .s .a) (a .x .candidate) (a .n .0)) (c .before .before .w .given .0 .0 .0))
 answer c =
     let d = c .before .before .before .before .before in
     let (lent, (subject, (turn, (lasts, (l, within))))) = d .before .before .pre in
@@ -102,7 +102,7 @@ returns : tie.Need-returns
 returns c =
     let k = c .before .before .before in
     let d = k .before .before in
-    let best = c .greater .ensures ∙ ap (max (d .before .before .before .args .self .best)) (answer (c .before)) in
+    let best = c .greater .ensures ∙ ap (max (d .before .before .before .args .self .best .0)) (answer (c .before)) in
     rw (best, step d, k .w .given .1) refl
 
 returns-2 : tie.Need-returns-2

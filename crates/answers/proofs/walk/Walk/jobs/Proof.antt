@@ -13,19 +13,19 @@ use Rattle.answers.proofs.walk.Walk.jobs.Statement.{statement}
 use Rattle.answers.proofs.walk.Walk.jobs.Tie as tie
 
 abbrev Inv-loop : tie.InvT-loop
-Inv-loop work s x jobs budget state₀ n₀ state n =
+Inv-loop work s x jobs budget count state₀ n₀ state n =
     Going budget
-    (walkJobs imposed (tableOf work) (s .u) (s .a) (x .mode) (x .candidate) jobs 0 (budget - state₀ .used) (state₀ .best))
-    (walkJobs imposed (tableOf work) (s .u) (s .a) (x .mode) (x .candidate) (jobs - n) n)
+    (walkJobs imposed (tableOf work) (s .u) (s .a) (x .mode) (x .candidate) (jobs .0) 0 (budget - state₀ .used) (state₀ .best .0))
+    (walkJobs imposed (tableOf work) (s .u) (s .a) (x .mode) (x .candidate) (jobs .0 - n) n)
     state
 
 abbrev μ-loop : tie.MeasureT-loop
-μ-loop work s x jobs budget state₀ n₀ state n = jobs - n
+μ-loop work s x jobs budget count state₀ n₀ state n = count - n
 
 loop-holds : tie.Need-loop-holds Inv-loop μ-loop
 loop-holds c =
     let (lent, (subject, (turn, (lasts, within)))) = c .pre in
-    let all : c .args .jobs - 0 ≡ c .args .jobs = omega arith in
+    let all : c .args .jobs .0 - 0 ≡ c .args .jobs .0 = omega arith in
     record { within = within; same = rw all refl }
 
 job-requires : tie.Need-job-requires Inv-loop μ-loop
@@ -39,7 +39,7 @@ enum-known-step c = search needs
 returns : tie.Need-returns Inv-loop μ-loop
 returns c =
     let a = c .before .before .before .before .args in
-    let next = jobs-next imposed (tableOf (now (a .work))) (a .s .u) (a .s .a) (a .x .mode) (a .x .candidate) (a .jobs) (c .before .before .before .loop .n) (c .before .before .loop-test .taken) in
+    let next = jobs-next imposed (tableOf (now (a .work))) (a .s .u) (a .s .a) (a .x .mode) (a .x .candidate) (a .jobs .0) (c .before .before .before .loop .n) (c .before .before .loop-test .taken) in
     going-stops (c .before .before .before .loop .inv) next (c .before .job .ensures) (stays (c .before .job .result) (c .match .keys2))
 
 add-n : tie.Need-add-n Inv-loop μ-loop
@@ -52,13 +52,13 @@ loop-again : tie.Need-loop-again Inv-loop μ-loop
 loop-again c =
     let d = c .before .before .before in
     let a = d .before .before .before .args in
-    let next = jobs-next imposed (tableOf (now (a .work))) (a .s .u) (a .s .a) (a .x .mode) (a .x .candidate) (a .jobs) (d .before .before .loop .n) (d .before .loop-test .taken) in
+    let next = jobs-next imposed (tableOf (now (a .work))) (a .s .u) (a .s .a) (a .x .mode) (a .x .candidate) (a .jobs .0) (d .before .before .loop .n) (d .before .loop-test .taken) in
     going-on (d .before .before .loop .inv) next (d .job .ensures) (c .before .step .given .1)
 
 returns-2 : tie.Need-returns-2 Inv-loop μ-loop
 returns-2 c =
     let a = c .before .before .args in
-    going-ends (c .before .loop .inv) (jobs-none imposed _ _ _ _ _ (a .jobs) (c .before .loop .n) (c .loop-test .left))
+    going-ends (c .before .loop .inv) (jobs-none imposed _ _ _ _ _ (a .jobs .0) (c .before .loop .n) (c .loop-test .left))
 
 pub jobs-spec : {M : Type 1} → statement M
 jobs-spec =

@@ -18,7 +18,7 @@ use Rattle.answers.proofs.walk.Walk.mode.Tie as tie
 abbrev Inv-loop : tie.InvT-loop
 Inv-loop work s m budget count state₀ c₀ state c =
     Going budget
-    (walkTurns imposed (tableOf work) (s .u) (s .a) (modeTurns (tableOf work) (s .u) (s .a) m) (budget - state₀ .used) (state₀ .best))
+    (walkTurns imposed (tableOf work) (s .u) (s .a) (modeTurns (tableOf work) (s .u) (s .a) m) (budget - state₀ .used) (state₀ .best .0))
     (walkTurns imposed (tableOf work) (s .u) (s .a) (turnsFrom (tableOf work) (s .u) (s .a) m c (count - c)))
     state
 

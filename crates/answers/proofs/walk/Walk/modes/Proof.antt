@@ -17,7 +17,7 @@ use Rattle.answers.proofs.walk.Walk.modes.Tie as tie
 abbrev Inv-loop : tie.InvT-loop
 Inv-loop work s budget count state₀ m₀ state m =
     Going budget
-    (walkTurns imposed (tableOf work) (s .u) (s .a) (walkOrder (tableOf work) (s .u) (s .a)) (budget - state₀ .used) (state₀ .best))
+    (walkTurns imposed (tableOf work) (s .u) (s .a) (walkOrder (tableOf work) (s .u) (s .a)) (budget - state₀ .used) (state₀ .best .0))
     (walkTurns imposed (tableOf work) (s .u) (s .a) (modesFrom (tableOf work) (s .u) (s .a) m (count - m)))
     state
 

@@ -37,14 +37,14 @@ busy-chain-requires c κs =
     (lent, (subject, (own c, within)))
 
 -- one turn of the walk, by how the L chain stopped
-step : (c : tie.After-busy-chain) → let d = c .before .before in let a = d .args in let x = c .before .instant-of .result in walked (a .budget) (walkTurn imposed (tab d) (a .s .u) (a .s .a) (record { mode = a .m; candidate = a .c }) (a .budget - a .self .used) (a .self .best)) ≡ afterStop (λ L used. walked (a .budget) (walkJobs imposed (tab d) (a .s .u) (a .s .a) (x .mode) (x .candidate) (jobsTo (tab d) (a .s .u) (a .s .a) (x .candidate) (lastJob (tab d) (a .s .u) (a .s .a) (x .candidate) (L .0))) 0 (a .budget - used) (a .self .best))) (c .busy-chain .result)
+step : (c : tie.After-busy-chain) → let d = c .before .before in let a = d .args in let x = c .before .instant-of .result in walked (a .budget) (walkTurn imposed (tab d) (a .s .u) (a .s .a) (record { mode = a .m; candidate = a .c }) (a .budget - a .self .used) (a .self .best .0)) ≡ afterStop (λ L used. walked (a .budget) (walkJobs imposed (tab d) (a .s .u) (a .s .a) (x .mode) (x .candidate) (jobsTo (tab d) (a .s .u) (a .s .a) (x .candidate) (lastJob (tab d) (a .s .u) (a .s .a) (x .candidate) (L .0))) 0 (a .budget - used) (a .self .best .0))) (c .busy-chain .result)
 step c =
     let d = c .before .before in
     let a = d .args in
     let x = c .before .instant-of .result in
     let turn = c .before .instant-of .ensures in
     rw (c .busy-chain .ensures, ← turn .mode, ← turn .candidate)
-    (turn-walked imposed (tab d) (a .s .u) (a .s .a) (a .budget) (x .mode) (x .candidate) (a .budget - a .self .used) (a .self .best) (omega arith))
+    (turn-walked imposed (tab d) (a .s .u) (a .s .a) (a .budget) (x .mode) (x .candidate) (a .budget - a .self .used) (a .self .best .0) (omega arith))
 
 -- where t came back
 abbrev Back : tie.After-instant-of → ℕ → Type 0
@@ -80,7 +80,7 @@ jobs-to-requires c κs =
     let k = comes (c .before .before .before .before .before) in
     (instant-first (lent .table .kept) (subject .chosen .isTask) (own d), rw (last c) (last-near (lent .table .kept) (subject .chosen .isTask) (d .instant-of .result .candidate) (k .0 .0 .1)))
 
-jobs : (c : tie.After-jobs-to) → let d = c .before .before .before .before .before .before .before .before .before in let a = d .before .args in c .jobs-to .result ≡ jobsTo (tab (d .before)) (a .s .u) (a .s .a) (d .instant-of .result .candidate) (lastJob (tab (d .before)) (a .s .u) (a .s .a) (d .instant-of .result .candidate) (c .before .before .before .before .before .before .length .given .0 .0 .0))
+jobs : (c : tie.After-jobs-to) → let d = c .before .before .before .before .before .before .before .before .before in let a = d .before .args in c .jobs-to .result .0 ≡ jobsTo (tab (d .before)) (a .s .u) (a .s .a) (d .instant-of .result .candidate) (lastJob (tab (d .before)) (a .s .u) (a .s .a) (d .instant-of .result .candidate) (c .before .before .before .before .before .before .length .given .0 .0 .0))
 jobs c =
     let d = c .before .before .before .before .before .before .before .before .before in
     let (lent, (subject, (setting, within))) = d .before .pre in
@@ -88,11 +88,11 @@ jobs c =
 
 jobs-requires : tie.Need-jobs-requires
 jobs-requires c κs =
-    let d = c .before .before .before .before .before .before .before .before .before in
+    let d = c .before .before .before .before .before .before .before .before .before .before in
     let (lent, (subject, (setting, within))) = d .before .pre in
-    let e = c .before .before .before .before .before .before in
+    let e = c .before .before .before .before .before .before .before in
     let k = comes e in
-    (lent, (subject, (own d, (record { L = e .length .given .0 .0 .0; some = k .0 .0 .0; within = k .0 .0 .1; enough = le-of-eq (k .0 .1); jobs = jobs c }, k .1))))
+    (lent, (subject, (own d, (record { L = e .length .given .0 .0 .0; some = k .0 .0 .0; within = k .0 .0 .1; enough = le-of-eq (k .0 .1); jobs = jobs (c .before) }, k .1))))
 
 enum-known-used : tie.Need-enum-known-used
 enum-known-used c = search needs
@@ -102,8 +102,8 @@ enum-told c = search needs
 
 returns : tie.Need-returns
 returns c =
-    let e = c .before .before .before .before .before .before .before in
-    rw (step (e .before .before), e .length .given .1, ← (jobs (c .before))) (c .jobs .ensures)
+    let e = c .before .before .before .before .before .before .before .before in
+    rw (step (e .before .before), e .length .given .1, ← (jobs (c .before .before))) (c .jobs .ensures)
 
 returns-2 : tie.Need-returns-2
 returns-2 c = rw (step (c .before .before .before), c .before .used .given .1) refl
