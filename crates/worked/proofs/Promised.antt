@@ -16,7 +16,7 @@ use Rattle.format.proofs.Kept.{kept}
 use Rattle.periods.specs.Charge.{imposed}
 use Rattle.analysis.specs.Walk.{answer}
 use Rattle.analysis.specs.Computing.{computing}
-use Rattle.analysis.specs.Answer.{Answer, Answers}
+use Rattle.analysis.specs.Answer.{Answers}
 use Rattle.analysis.proofs.Answer.{answers}
 use Rattle.worked.specs.Promised.{Case, Promised, Each, first, cases}
 
