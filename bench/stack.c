@@ -1,7 +1,7 @@
 /* How many bytes of stack one call of sumpcandle_response takes: it is called on a stack of a known pattern, and so is a
    function that does nothing; the difference of what the two leave changed is printed.
 
-   stack FILE...    asks for every task of each image, and prints the greatest */
+   stack FILE...    asks for every task of each image, and prints the greatest; status 1 where it is above SUMPCANDLE_STACK */
 
 #define _POSIX_C_SOURCE 200809L
 
@@ -63,6 +63,6 @@ int main(int count, char **arguments) {
         size_t now = used(stack, asks);
         most = now > most ? now : most;
     }
-    printf("%zu\n", most - before);
-    return 0;
+    printf("a call takes %zu bytes of stack\n", most - before);
+    return most - before > SUMPCANDLE_STACK;
 }

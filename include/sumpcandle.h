@@ -24,6 +24,10 @@ extern "C" {
    its time grows with the evaluations that it makes, at most `budget`, and with what one of them costs. */
 uint64_t sumpcandle_response(const uint8_t *image, size_t length, uint32_t task, uint32_t budget);
 
+/* Bytes of stack that a call takes at most: what a thread needs beside its own. Measured on every sample by bench/stack.c, not
+   proved. */
+#define SUMPCANDLE_STACK 36864
+
 /* Codes: the image is good and has that task. With a bound, every job of the task has finished when that many ticks have
    passed since its event, in every legal run. That a run is late is never said: a bound may be above what any run
    shows. */
