@@ -13,11 +13,6 @@ unfolding tested
 tested-yes (yes a) h = refl
 tested-yes (no f) h = absurd (f h)
 
-pub tested-no : {A : Type 0} (d : Dec A) → ¬ A → tested d ≡ false
-unfolding tested
-tested-no (yes a) h = absurd (h a)
-tested-no (no f) h = refl
-
 -- no flag is both
 pub never : false ≡ true → ⊥
 never e = let z : _≡_ {A = ℕ} 0 1 = cc in omega arith
