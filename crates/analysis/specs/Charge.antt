@@ -72,6 +72,11 @@ S-greatest : greatest imposed S 1 0 0 5 ∷ greatest released S 1 0 0 5 ∷ riva
 unfolding charging
 S-greatest = refl
 
+-- at t = 3 task 1 as candidate charges more than task 0
+S-second : charge imposed S 1 0 0 0 0 3 ∷ charge imposed S 1 0 0 0 1 3 ∷ greatest imposed S 1 0 0 3 ∷ [] ≡ 2 ∷ 3 ∷ 3 ∷ []
+unfolding charging
+S-second = refl
+
 -- a transaction without rivals charges 0: task 0 has none in transaction 1
 no-rivals : greatest released S 0 0 1 10 ≡ 0
 unfolding charging
