@@ -20,38 +20,38 @@ ghost use Rattle.told.specs.Answered.{meant, cellsMeant};
 ghost use Rattle.told.specs.Told.{OwedAt};
 
 // The answer of the subject under a budget.
-fn answer(row: &[u32; Work::CELLS], s: Subject, budget: u32) -> TaskAnswer
-    requires { ⌜ Lent (now row) ⌝ }
-    requires { ⌜ IsSubject (now row) s ⌝ }
-    ensures { λ r. ⌜ meant r ≡ answer imposed (tableOf (now (row .entry))) (s .u) (s .a) budget ⌝ }
+fn answer(work: &[u32; Work::CELLS], s: Subject, budget: u32) -> TaskAnswer
+    requires { ⌜ Lent (now work) ⌝ }
+    requires { ⌜ IsSubject (now work) s ⌝ }
+    ensures { λ r. ⌜ meant r ≡ answer imposed (tableOf (now (work .entry))) (s .u) (s .a) budget ⌝ }
 {
-    if overload::is_overload(row, s) {
+    if overload::is_overload(work, s) {
         return TaskAnswer::Overload;
     }
-    match Walk::new().modes(row, s, budget) {
+    match Walk::new().modes(work, s, budget) {
         Walked::Through(end) => TaskAnswer::Bound(end.best.0 as u32, end.used),
         Walked::Past(used) => TaskAnswer::Beyond(used),
         Walked::Broke => TaskAnswer::Spent(budget),
     }
 }
 
-// The cells of the task with number k, with a working row of the table that may be another task's.
+// The cells of the task with number k, with work cells of the table that may be another task's.
 pub(crate) fn task_cells(
     table: &[u32; Table::CELLS],
-    row: &mut [u32; Work::CELLS],
+    work: &mut [u32; Work::CELLS],
     k: usize,
     budget: u32,
 ) -> TaskCells
     requires { ⌜ RowOfTable (now table) ⌝ }
-    requires { ⌜ Lent (now row) ⌝ }
-    requires { ⌜ tableOf (now row) ≡ tableOf (now table) ⌝ }
+    requires { ⌜ Lent (now work) ⌝ }
+    requires { ⌜ tableOf (now work) ≡ tableOf (now table) ⌝ }
     requires { ⌜ k < inAll (tableOf (now table)) ⌝ }
     ensures { λ r. ⌜ OwedAt (tableOf (now (table .entry))) k budget (cellsMeant r) ⌝ }
-    ensures { λ _. ⌜ Lent (now (row .exit)) ⌝ }
-    ensures { λ _. ⌜ tableOf (now (row .exit)) ≡ tableOf (now (table .entry)) ⌝ }
+    ensures { λ _. ⌜ Lent (now (work .exit)) ⌝ }
+    ensures { λ _. ⌜ tableOf (now (work .exit)) ≡ tableOf (now (table .entry)) ⌝ }
 {
     let s = work::task(table, k);
-    work::weigh(row, s);
-    links::link(row, s);
-    answer(&*row, s, budget).cells(Table::deadline(table, k))
+    work::weigh(work, s);
+    links::link(work, s);
+    answer(&*work, s, budget).cells(Table::deadline(table, k))
 }

@@ -16,7 +16,7 @@ use Rattle.answers.proofs.answers.answer.Tie as tie
 
 -- the answer of the definitions
 abbrev wanted : tie.Start → Answer
-wanted x = answer imposed (tableOf (now (x .args .row))) (x .args .s .u) (x .args .s .a) (x .args .budget)
+wanted x = answer imposed (tableOf (now (x .args .work))) (x .args .s .u) (x .args .s .a) (x .args .budget)
 
 is-overload-requires : tie.Need-is-overload-requires
 is-overload-requires c κs = search needs
@@ -24,7 +24,7 @@ is-overload-requires c κs = search needs
 returns : tie.Need-returns
 returns c =
     let x = c .before .before .args in
-    overload-answer (tableOf (now (x .row))) (x .s .u) (x .s .a) (x .budget) (sym (c .before .is-overload .ensures) ∙ c .if1 .taken)
+    overload-answer (tableOf (now (x .work))) (x .s .u) (x .s .a) (x .budget) (sym (c .before .is-overload .ensures) ∙ c .if1 .taken)
 
 new-requires : tie.Need-new-requires
 new-requires c κs = search needs
@@ -42,7 +42,7 @@ by-walk :
     → meant (answerFor (c .before .before .before .before .args .budget) w) ≡ wanted (c .before .before .before .before)
 by-walk c w e =
     let x = c .before .before .before .before .args in
-    walk-answer (tableOf (now (x .row))) (x .s .u) (x .s .a) (x .budget)
+    walk-answer (tableOf (now (x .work))) (x .s .u) (x .s .a) (x .budget)
     (sym (c .before .before .before .is-overload .ensures) ∙ c .before .before .if1 .left)
     (c .before .new .ensures .0)
     (c .before .new .ensures .1)
@@ -53,7 +53,7 @@ cast-t10 c =
     let w = c .before .before .before .before in
     let x = w .before .before .before .before in
     let e = by-walk w _ (c .before .before .end .given .1) in
-    omega (arith, walk-bound-most (tableOf (now (x .args .row))) (x .args .s .u) (x .args .s .a) (x .args .budget) (x .pre .0 .table .kept) (x .pre .1 .chosen .isTask) _ _ e)
+    omega (arith, walk-bound-most (tableOf (now (x .args .work))) (x .args .s .u) (x .args .s .a) (x .args .budget) (x .pre .0 .table .kept) (x .pre .1 .chosen .isTask) _ _ e)
 
 enum-known-used : tie.Need-enum-known-used
 enum-known-used c = search needs

@@ -1,4 +1,4 @@
--- `task_cells` gives the cells of the answer of the task with that number, by that task's deadline, once the working row is
+-- `task_cells` gives the cells of the answer of the task with that number, by that task's deadline, once the work cells are
 -- that task's.
 use mathlib.Core.Path.{_≡_, sym, ap, ap₂, _∙_, subst}
 use denote.Ref.{now}
