@@ -24,8 +24,8 @@ extern "C" {
    its time grows with the evaluations that it makes, at most `budget`, and with what one of them costs. */
 uint64_t sumpcandle_response(const uint8_t *image, size_t length, uint32_t task, uint32_t budget);
 
-/* Bytes of stack that a call takes at most: what a thread needs beside its own. Measured on every sample by bench/stack.c, not
-   proved. */
+/* Bytes of stack to leave for a call, beside what a thread needs of its own. Not proved: bench/stack.c measured 32,432 over the
+   samples, and the gate fails where it measures more than this. */
 #define SUMPCANDLE_STACK 36864
 
 /* Codes: the image is good and has that task. With a bound, every job of the task has finished when that many ticks have
