@@ -1,0 +1,4 @@
+pub mod Parts
+pub mod Tiles
+pub mod Answer
+pub mod Refused

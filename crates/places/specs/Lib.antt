@@ -1,0 +1,4 @@
+pub mod Held
+pub mod About
+pub mod Find
+pub mod Cases
