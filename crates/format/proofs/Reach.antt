@@ -13,9 +13,10 @@ use Rattle.table.specs.Fields.{HeaderField, HeadField, TaskField, widthInHeader
 use Rattle.table.specs.Rules.{rule, headerRules, headRules, taskRules, transactionRules, bodyRules, tableRules}
 use Rattle.refusals.specs.declared.Refusal.{Refusal}
 use Rattle.refusals.specs.declared.Refusal.the-variants.{EndsInside}
-use Rattle.refusals.specs.declared.Answer.the-variants.{Accepted}
+use Rattle.refusals.specs.declared.Answer.{Answer}
+use Rattle.refusals.specs.declared.Answer.the-variants.{Accepted, Refused}
 use Rattle.refusals.specs.Answer.{answerPlace, _then_, firstOf}
-use Rattle.refusals.proofs.Findings.{then-joins, none-first, none-second, none-of, place-checked, place-then, place-first}
+use Rattle.refusals.proofs.Findings.{then-joins, none-first, none-second, none-of, Only, only-checked, only-then, only-first}
 use Rattle.format.specs.Places.{placeInHeader, placeInHead, placeInTask, timeAt, taskWidth, taskAt, past, start, longestImage}
 use Rattle.format.specs.Said.{countIn, modesIn, tasksIn, tasksBefore}
 use Rattle.format.specs.Fault.{lookAt, headerFault, taskFault, headFault, transactionFault, endFault, imageFault, IsAccepted}
@@ -60,46 +61,52 @@ module _ (image : List ℕ) where
   abbrev most : ℕ
   most = 8 * longestImage
 
+  abbrev Near : Refusal → ℕ → Type 0
+  Near refusal p = p ≤ most
+
+  abbrev Within : Answer → Type 0
+  Within = Only Near
+
   module _ {F : Type 0} (place width : F → ℕ) (f : F) where
-    field-place : place f ≤ most → answerPlace (lookAt image place width .finding f) ≤ most
-    field-place h = place-checked most (isInside image (place f) (width f)) EndsInside (place f) h
+    field-place : place f ≤ most → Within (lookAt image place width .finding f)
+    field-place h = only-checked Near (isInside image (place f) (width f)) EndsInside (place f) h
 
     rule-place :
-        (t : Bool) (r : Refusal) → place f ≤ most → answerPlace (rule _then_ (lookAt image place width) f t r) ≤ most
-    rule-place t r h = place-then most _ _ (field-place h) (λ e. place-checked most t r (place f) h)
+        (t : Bool) (r : Refusal) → place f ≤ most → Within (rule _then_ (lookAt image place width) f t r)
+    rule-place t r h = only-then Near _ _ (field-place h) (λ e. only-checked Near t r (place f) h)
 
-  header-place : answerPlace (headerFault image) ≤ most
+  header-place : Within (headerFault image)
   unfolding headerRules
   header-place =
-      place-then most _ _
-      (place-then most _ _ (rule-place placeInHeader widthInHeader HeaderField.edition _ _ (omega arith))
+      only-then Near _ _
+      (only-then Near _ _ (rule-place placeInHeader widthInHeader HeaderField.edition _ _ (omega arith))
       (λ e. rule-place placeInHeader widthInHeader HeaderField.frame _ _ (omega arith)))
       (λ e. rule-place placeInHeader widthInHeader HeaderField.count _ _ (omega arith))
 
-  head-place : (before p : ℕ) → p + 28 ≤ most → answerPlace (headFault image before p) ≤ most
+  head-place : (before p : ℕ) → p + 28 ≤ most → Within (headFault image before p)
   unfolding headRules
   head-place before p h =
-      place-then most _ _
-      (place-then most _ _ (rule-place (placeInHead p) widthInHead HeadField.period _ _ (omega arith))
+      only-then Near _ _
+      (only-then Near _ _ (rule-place (placeInHead p) widthInHead HeadField.period _ _ (omega arith))
       (λ e. rule-place (placeInHead p) widthInHead HeadField.modes _ _ (omega arith)))
       (λ e. rule-place (placeInHead p) widthInHead HeadField.tasks _ _ (omega arith))
 
-  task-place : (m q : ℕ) → q + taskWidth m ≤ most → answerPlace (taskFault image m q) ≤ most
+  task-place : (m q : ℕ) → q + taskWidth m ≤ most → Within (taskFault image m q)
   unfolding taskRules firstOf
   task-place m q h =
-      let at : (f : TaskField) → placeInTask q f ≤ most → answerPlace (lookAt image (placeInTask q) widthInTask .finding f) ≤ most =
+      let at : (f : TaskField) → placeInTask q f ≤ most → Within (lookAt image (placeInTask q) widthInTask .finding f) =
       field-place (placeInTask q) widthInTask in
-      place-then most _ _
-      (place-then most _ _
-      (place-then most _ _
-      (place-then most _ _
-      (place-then most _ _
-      (place-then most _ _ (at TaskField.offset (omega arith)) (λ e. at TaskField.jitter (omega arith)))
+      only-then Near _ _
+      (only-then Near _ _
+      (only-then Near _ _
+      (only-then Near _ _
+      (only-then Near _ _
+      (only-then Near _ _ (at TaskField.offset (omega arith)) (λ e. at TaskField.jitter (omega arith)))
       (λ e. at TaskField.blocking (omega arith)))
       (λ e. rule-place (placeInTask q) widthInTask TaskField.deadline _ _ (omega arith)))
       (λ e. at TaskField.priority (omega arith)))
-      (λ e. place-first most m _ (λ k below so-far. at (TaskField.time k) (omega arith))))
-      (λ e. place-checked most _ _ (timeAt q 0) (omega arith))
+      (λ e. only-first Near m _ (λ k below so-far. at (TaskField.time k) (omega arith))))
+      (λ e. only-checked Near _ _ (timeAt q 0) (omega arith))
 
   -- task j of transaction u ends where the next transaction starts, or before
   pub task-reach :
@@ -116,15 +123,15 @@ module _ (image : List ℕ) where
       (u : ℕ)
       → u < 32
       → ((v : ℕ) → v < u → Sound v)
-      → answerPlace (transactionFault image (tasksBefore image u) (start image u)) ≤ most
+      → Within (transactionFault image (tasksBefore image u) (start image u))
   unfolding transactionRules firstOf start
   transaction-place u h each =
       let p = start image u in
-      place-then most _ _ (head-place (tasksBefore image u) p (omega (arith, reach u each, few-before image u each)))
+      only-then Near _ _ (head-place (tasksBefore image u) p (omega (arith, reach u each, few-before image u each)))
       (λ clear.
       let here : Sound u = sound-head image (tasksBefore image u) p clear in
       let next : start image (suc u) ≤ 20_162 = reach-most (suc u) h (more each here) in
-      place-first most (tasksIn image p) _
+      only-first Near (tasksIn image p) _
       (λ j within so-far.
       task-place (modesIn image p) (taskAt p (modesIn image p) j) (omega (arith, task-reach p j within, next))))
     where
@@ -135,10 +142,10 @@ module _ (image : List ℕ) where
             | no ne ↦ before-u v (omega arith)
           ]
 
-  end-place : (p : ℕ) → p ≤ 20_162 → answerPlace (endFault image p) ≤ most
+  end-place : (p : ℕ) → p ≤ 20_162 → Within (endFault image p)
   unfolding endFault
   end-place p h =
-      place-then most _ _ (place-checked most _ _ _ (omega arith)) (λ e. place-checked most _ _ _ (omega arith))
+      only-then Near _ _ (only-checked Near _ _ _ (omega arith)) (λ e. only-checked Near _ _ _ (omega arith))
 
   pub sound-before :
       (n : ℕ)
@@ -149,15 +156,22 @@ module _ (image : List ℕ) where
   unfolding transactionRules firstOf
   sound-before n clear v h = sound-head image (tasksBefore image v) (start image v) (none-first _ _ (none-of then-joins n _ clear v h))
 
-  -- every place is at most 20,168, whatever the bytes are
-  pub furthest : answerPlace (imageFault image) ≤ most
+  image-place : Within (imageFault image)
   unfolding imageFault tableRules bodyRules firstOf tasksBefore
-  furthest =
-      place-then most _ _
-      (place-then most _ _ header-place
+  image-place =
+      only-then Near _ _
+      (only-then Near _ _ header-place
       (λ clear.
       let few : countIn image ≤ 32 = sound-header image clear .few in
-      place-first most (countIn image) _ (λ u below so-far. transaction-place u (omega arith) (sound-before u so-far))))
+      only-first Near (countIn image) _ (λ u below so-far. transaction-place u (omega arith) (sound-before u so-far))))
       (λ clear.
       let few : countIn image ≤ 32 = sound-header image (none-first _ _ clear) .few in
       end-place (start image (countIn image)) (reach-most (countIn image) few (sound-before (countIn image) (none-second _ _ clear))))
+
+  -- every place is at most 20,168, whatever the bytes are
+  pub furthest : answerPlace (imageFault image) ≤ most
+  furthest = placed (imageFault image) image-place
+    where
+      placed : (a : Answer) → Within a → answerPlace a ≤ most
+      placed Accepted h = omega arith
+      placed (Refused refusal at) h = h

@@ -1,13 +1,14 @@
 -- The place of a refusal names the field that the refusal is about: a table's rules refuse a field at its own place.
-use mathlib.Core.Path.{_≡_, refl}
+use mathlib.Core.Path.{_≡_}
 use mathlib.Core.List.{List}
-use mathlib.Core.Bool.{Bool, true, false}
-use Prim.Native.Nat.{ℕ, zero, suc, _≤_, _<_}
+use mathlib.Core.Bool.{Bool}
+use Prim.Native.Nat.{ℕ, _≤_, _<_}
 use native.Mathlib.Omega.{arith}
 use Rattle.refusals.specs.declared.Refusal.{Refusal}
 use Rattle.refusals.specs.declared.Answer.{Answer}
-use Rattle.refusals.specs.declared.Answer.the-variants.{Accepted, Refused}
-use Rattle.refusals.specs.Answer.{_then_, foundOf, firstOf, checked}
+use Rattle.refusals.specs.declared.Answer.the-variants.{Refused}
+use Rattle.refusals.specs.Answer.{_then_, firstOf}
+use Rattle.refusals.proofs.Findings.{Only, only-checked, only-then, only-first}
 use Rattle.table.specs.Fields as table
 use Rattle.table.specs.Fields.{HeaderField, HeadField, TaskField, IsTaskField, IsField}
 use Rattle.table.specs.Fields.Field.{header, head, task}
@@ -23,28 +24,6 @@ use Rattle.places.specs.About.{About, Points}
 use Rattle.places.specs.About.Points.{starts, padding, follow}
 use Rattle.places.proofs.Tiles.{has-head, has-task}
 use Rattle.places.proofs.Answer.{held-unique, named-at}
-
--- ---- what holds of each refusal of some findings holds of the one that is given
-
-module _ (P : Refusal → ℕ → Type 0) where
-  abbrev Only : Answer → Type 0
-  Only Accepted = Unit
-  Only (Refused refusal p) = P refusal p
-
-  only-checked : (t : Bool) (refusal : Refusal) (p : ℕ) → P refusal p → Only (checked t refusal p)
-  unfolding checked
-  only-checked true refusal p h = tt
-  only-checked false refusal p h = h
-
-  only-then : (a b : Answer) → Only a → (a ≡ Accepted → Only b) → Only (a then b)
-  unfolding _then_
-  only-then Accepted b h k = k refl
-  only-then (Refused refusal p) b h k = h
-
-  only-first : (n : ℕ) (f : ℕ → Answer) → ((k : ℕ) → k < n → Only (f k)) → Only (firstOf n f)
-  unfolding firstOf foundOf
-  only-first zero f each = tt
-  only-first (suc n) f each = only-then (firstOf n f) (f n) (only-first n f (λ k h. each k (omega arith))) (λ e. each n (omega arith))
 
 module _ (image : List ℕ) where
   abbrev Pointed : Refusal → ℕ → Type 0
@@ -98,7 +77,7 @@ module _ (image : List ℕ) where
       (λ e. at TaskField.blocking tt))
       (λ e. rule-right (task u j TaskField.deadline) _ (has-task image u j TaskField.deadline below within tt) (About.deadline u j)))
       (λ e. at TaskField.priority tt))
-      (λ e. only-first Pointed (modesIn image (start image u)) _ (λ k h. at (TaskField.time k) h)))
+      (λ e. only-first Pointed (modesIn image (start image u)) _ (λ k h so-far. at (TaskField.time k) h)))
       (λ e. only-checked Pointed _ _ _ (_, starts (task u j (TaskField.time 0)) (has-task image u j (TaskField.time 0) below within some) (About.times u j)))
     where
       at : (f : TaskField) → IsTaskField (modesIn image (start image u)) f → Right (imageLook image .finding (task u j f))
@@ -110,7 +89,7 @@ module _ (image : List ℕ) where
       only-then Pointed _ _ (head-right u below)
       (λ clear.
       only-first Pointed (tasksIn image (start image u)) _
-      (λ j within. task-right u j below within (sound-head image (tasksBefore image u) (start image u) clear .someMode)))
+      (λ j within so-far. task-right u j below within (sound-head image (tasksBefore image u) (start image u) clear .someMode)))
 
   end-right : Right (endFault image (start image (countIn image)))
   unfolding endFault
@@ -120,7 +99,7 @@ module _ (image : List ℕ) where
   unfolding imageFault tableRules bodyRules firstOf tasksBefore
   image-right =
       only-then Pointed _ _
-      (only-then Pointed _ _ header-right (λ e. only-first Pointed (countIn image) _ transaction-right))
+      (only-then Pointed _ _ header-right (λ e. only-first Pointed (countIn image) _ (λ u below so-far. transaction-right u below)))
       (λ e. end-right)
 
   points-held : {refusal : Refusal} {p : ℕ} {r : Field} → Points image refusal p r → Held image p r

@@ -1,14 +1,14 @@
 -- Laws of findings: the first one stays, and where there is none, however they are joined, each check held.
 use mathlib.Core.Path.{_≡_, refl, sym, ap, _∙_}
 use mathlib.Core.Bool.{Bool, true, false, _&&_}
-use Prim.Native.Nat.{ℕ, zero, suc, _+_, _≤_, _<_, zero-le}
+use Prim.Native.Nat.{ℕ, zero, suc, _+_, _≤_, _<_}
 use native.Mathlib.Decide.{ℕ-discrete}
 use native.Mathlib.Numerals.{add-one}
 use native.Mathlib.Omega.{arith}
 use Rattle.refusals.specs.declared.Refusal.{Refusal}
 use Rattle.refusals.specs.declared.Answer.{Answer}
 use Rattle.refusals.specs.declared.Answer.the-variants.{Accepted, Refused}
-use Rattle.refusals.specs.Answer.{answerPlace, isAccepted, _then_, foundOf, firstOf, checked}
+use Rattle.refusals.specs.Answer.{isAccepted, _then_, foundOf, firstOf, checked}
 
 pub refused-then : (a b : Answer) → isAccepted a ≡ false → (a then b) ≡ a
 unfolding _then_
@@ -130,28 +130,27 @@ first-same (suc n) f g h =
     let earlier : firstOf n f ≡ firstOf n g = first-same n f g (λ k l so-far. h k (omega arith) so-far) in
     then-same (firstOf n f) (λ so-far. h n (omega arith) so-far) ∙ ap (λ (a : Answer). a then g n) earlier
 
--- ---- how far the place of a finding reaches: a later check is looked at only where the earlier ones held
+-- ---- what holds of each refusal that may be found holds of the one that is given: a later check is looked at only where the
+-- earlier ones held
 
-pub place-checked : (most : ℕ) (t : Bool) (r : Refusal) (at : ℕ) → at ≤ most → answerPlace (checked t r at) ≤ most
-unfolding checked
-place-checked most true r at h = zero-le
-place-checked most false r at h = h
+module _ (P : Refusal → ℕ → Type 0) where
+  abbrev pub Only : Answer → Type 0
+  Only Accepted = Unit
+  Only (Refused refusal at) = P refusal at
 
-pub place-then :
-    (most : ℕ) (a b : Answer)
-    → answerPlace a ≤ most
-    → (a ≡ Accepted → answerPlace b ≤ most)
-    → answerPlace (a then b) ≤ most
-unfolding _then_
-place-then most Accepted b h k = k refl
-place-then most (Refused r at) b h k = h
+  pub only-checked : (t : Bool) (refusal : Refusal) (at : ℕ) → P refusal at → Only (checked t refusal at)
+  unfolding checked
+  only-checked true refusal at h = tt
+  only-checked false refusal at h = h
 
-pub place-first :
-    (most n : ℕ) (f : ℕ → Answer)
-    → ((k : ℕ) → k < n → firstOf k f ≡ Accepted → answerPlace (f k) ≤ most)
-    → answerPlace (firstOf n f) ≤ most
-unfolding firstOf
-place-first most zero f each = zero-le
-place-first most (suc n) f each =
-    place-then most (firstOf n f) (f n) (place-first most n f (λ k h so-far. each k (omega arith) so-far))
-    (each n (omega arith))
+  pub only-then : (a b : Answer) → Only a → (a ≡ Accepted → Only b) → Only (a then b)
+  unfolding _then_
+  only-then Accepted b h k = k refl
+  only-then (Refused refusal at) b h k = h
+
+  pub only-first : (n : ℕ) (f : ℕ → Answer) → ((k : ℕ) → k < n → firstOf k f ≡ Accepted → Only (f k)) → Only (firstOf n f)
+  unfolding firstOf
+  only-first zero f each = tt
+  only-first (suc n) f each =
+      only-then (firstOf n f) (f n) (only-first n f (λ k h so-far. each k (omega arith) so-far))
+      (each n (omega arith))
