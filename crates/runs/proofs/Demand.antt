@@ -1,6 +1,7 @@
 -- Demand 3, of demand 2's bound: it holds in every legal run, and the whole-job bound is not below it.
 use mathlib.Core.Path.{_≡_}
-use Prim.Native.Nat.{ℕ, _+_}
+use Prim.Native.Nat.{ℕ, _+_, _≤_}
+use native.Mathlib.Omega.{arith}
 use Rattle.table.specs.Table.{Table, IsTask}
 use Rattle.table.specs.Kept.{Kept}
 use Rattle.table.proofs.Ranges.{kept-period}
@@ -15,7 +16,19 @@ use Rattle.analysis.proofs.Charges.{imposed-fair}
 use Rattle.analysis.proofs.Response.{bounds}
 use Rattle.analysis.proofs.Answer.{answer-bound}
 use Rattle.analysis.proofs.Whole.{tight}
+use Rattle.runs.proofs.Task.{served-le, served-mono}
 use Rattle.runs.proofs.Sound.{sound, safe}
+
+-- what has finished stays so: a later tick than the bound will do
+pub safe-later : {tab : Table} {u a R D : ℕ} → IsTask tab u a → R ≤ D → Safe tab u a R → Safe tab u a D
+safe-later {tab} {u} {a} {R} {D} isTask l safe ρ legal k =
+    let by = eventTick tab ρ u k in
+    omega (
+      arith,
+      safe ρ legal k,
+      served-le tab ρ (legal .rules) u a isTask k (by + D),
+      served-mono ρ u a k (by + R) (by + D) (omega arith),
+    )
 
 module _ {tab : Table} (keeps : Kept tab) {u a : ℕ} (isTask : IsTask tab u a) where
   -- from the holding rule of that task alone, and in the wider reading of 'unbroken stretch'

@@ -39,7 +39,7 @@ module _ {tab : Table} (keeps : Kept tab) {budget : ℕ} {before after : List �
       (joined-same (inAll tab) _ _ (λ k l. ap listed (owed-one keeps (w .each k l) (each k l))))
 
   -- and in the cells of that number
-  written-in : {k : ℕ} → k < inAll tab → cellsIn after k ≡ listed (w .told k)
+  pub written-in : {k : ℕ} → k < inAll tab → cellsIn after k ≡ listed (w .told k)
   written-in {k} l =
       ap (λ (cells : List ℕ). cellsIn cells k) (w .is)
       ∙ told-in (w .told) (inAll tab) (drop (cellsOfTask * inAll tab) before) k l

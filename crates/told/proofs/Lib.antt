@@ -1,5 +1,7 @@
 pub mod Cells
+pub mod Verdict
 pub mod Answered
 pub mod Told
 pub mod Agree
+pub mod InTime
 pub mod Sample

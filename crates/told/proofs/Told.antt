@@ -77,7 +77,7 @@ module _ {tab : Table} (keeps : Kept tab) {u a : ℕ} (isTask : IsTask tab u a) 
 
 module _ {tab : Table} (keeps : Kept tab) {k : ℕ} where
   -- what is owed there is owed to the task of that number
-  owed-to : {budget : ℕ} {c : Cells} {u a : ℕ} → OwedAt tab k budget c → IsTask tab u a → number tab u a ≡ k → Owed tab u a budget c
+  pub owed-to : {budget : ℕ} {c : Cells} {u a : ℕ} → OwedAt tab k budget c → IsTask tab u a → number tab u a ≡ k → Owed tab u a budget c
   owed-to {budget} {c} x isTask numbered =
       let (p, q) = number-unique tab (x .isTask) isTask (x .numbered ∙ sym numbered) in
       subst₂ (λ (v b : ℕ). Owed tab v b budget c) p q (x .owed)

@@ -1,9 +1,10 @@
 -- The cells of a task: how many there are, in which order, and where they stand among the cells that a caller lends.
-use mathlib.Core.Bool.{Bool, cond}
-use mathlib.Core.List.{List, [], _∷_}
-use Prim.Native.Nat.{ℕ, suc, _*_}
-use lib.Dec.{leb}
-use lib.ListN.{length, take, drop}
+use mathlib.Core.Bool.{Bool, true, false, cond}
+use mathlib.Core.List.{List, [], _∷_, map}
+use mathlib.Core.Path.{_≡_, refl}
+use Prim.Native.Nat.{ℕ, zero, suc, _*_}
+use lib.Dec.{leb, eqb}
+use lib.ListN.{length, getD, take, drop}
 use lib.Seq.{sets}
 use Rattle.analysis.specs.Answer.{Cells}
 
@@ -25,3 +26,21 @@ hasRoom cells tasks = leb (cellsOfTask * tasks) cells
 -- the cells with c as those of task number k, if they have room for it
 unfoldable pub stored : List ℕ → ℕ → Cells → List ℕ
 stored cells k c = cond (hasRoom (length cells) (suc k)) (sets cells (cellsOfTask * k) (listed c)) cells
+
+-- task number k has its cells there, and its code is 0
+unfoldable pub isKept : List ℕ → ℕ → Bool
+isKept cells k = cond (hasRoom (length cells) (suc k)) (eqb (getD cells (cellsOfTask * k) 0) 0) false
+
+-- and so has each of the first n tasks
+unfoldable pub areKept : List ℕ → (n : ℕ) → Bool
+areKept cells zero = true
+areKept cells (suc k) = cond (areKept cells k) (isKept cells k) false
+
+-- S: the first two tasks keep their deadlines, the third is not shown to, and a fourth has no cells
+S-kept : map (areKept (0 ∷ 2 ∷ 3 ∷ 0 ∷ 7 ∷ 5 ∷ 20 ∷ 5 ∷ 6 ∷ [])) (0 ∷ 2 ∷ 3 ∷ []) ≡ true ∷ true ∷ false ∷ []
+unfolding areKept isKept
+S-kept = refl
+
+no-fourth : map (areKept (0 ∷ 2 ∷ 3 ∷ 0 ∷ 7 ∷ 5 ∷ 0 ∷ 3 ∷ 6 ∷ [])) (3 ∷ 4 ∷ []) ≡ true ∷ false ∷ []
+unfolding areKept isKept
+no-fourth = refl

@@ -63,6 +63,10 @@ pub data Fills (image : List ℕ) (budget : ℕ) (before after : List ℕ) : Fil
   refused : {refusal : Refusal} {at : ℕ} → imageFault image ≡ Refused refusal at → after ≡ before → Fills image budget before after (filled.Refused refusal at)
   accepted : {r : Filled} → IsAccepted image → FillsFrom (tableIn image) budget before after r → Fills image budget before after r
 
+-- every task keeps its deadline: in every legal run each job of it has finished when its deadline has passed since its event
+abbrev pub InTime : Table → Type 0
+InTime tab = (u a : ℕ) → IsTask tab u a → Safe tab u a (deadline tab u a)
+
 -- code × 2^32 + bound, or number × 2^32 + place
 unfoldable pub paired : (upper lower : ℕ) → ℕ
 paired upper lower = upper * 2 ^ 32 + lower

@@ -4,7 +4,7 @@ use refusals::Refusal;
 ghost use mathlib.Core.Path.{_≡_};
 ghost use lib.ListN.{length};
 ghost use Rattle.analysis.specs.Answer.{cells};
-ghost use Rattle.told.specs.Cells.{hasRoom, stored};
+ghost use Rattle.told.specs.Cells.{hasRoom, stored, areKept};
 ghost use Rattle.told.specs.Answered.{meant, cellsMeant};
 ghost use Rattle.told.specs.Told.{filledNumber, filledPlace, paired};
 
@@ -127,6 +127,24 @@ impl TaskCells {
             cells[at + TaskCells::BOUND_CELL] = self.bound;
             cells[at + TaskCells::EVALUATIONS_CELL] = self.evaluations;
         }
+    }
+
+    // Whether each of so many tasks has its cells there, and in them the code that says that it keeps its deadline.
+    pub fn all_kept(cells: &[u32], tasks: usize) -> bool
+        ensures { λ r. ⌜ r ≡ areKept (now (cells .entry)) tasks ⌝ }
+    {
+        let mut k: usize = 0;
+        while k < tasks {
+            if cells.len() / TaskCells::COUNT <= k {
+                return false;
+            }
+            let code = cells[TaskCells::COUNT * k + TaskCells::CODE_CELL];
+            if code != TaskCells::KEPT {
+                return false;
+            }
+            k += 1;
+        }
+        true
     }
 }
 
