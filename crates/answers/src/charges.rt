@@ -225,8 +225,8 @@ fn charge(
     Ticks(held_back(work, s, i, m, c, x) + passed + rest)
 }
 
-// The same for a transaction of at most three tasks: a copy, since the compiler no longer takes one function for both into
-// its caller, and an evaluation is then a fifth slower.
+// The same for a transaction of at most three tasks: a copy, since forms with one function for both took 1.14 to 1.38 times
+// as long (docs/DECISIONS.md). Likely the compiler then no longer takes it into its caller; that was not checked.
 fn few_charge(
     work: &[u32; Work::CELLS],
     s: Subject,
