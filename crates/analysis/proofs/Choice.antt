@@ -5,6 +5,7 @@ use Prim.Native.Nat.{ℕ, zero, suc, _≤_, _<_, max}
 use native.Mathlib.Nat.{le-refl, le-antisymm, le-trans, le-max-left, le-max-right, max-le, eq-or-lt-of-le, le-of-suc-le-suc}
 use native.Mathlib.Omega.{arith}
 use Rattle.analysis.specs.Choice.{when, unless, most, Least}
+use Rattle.analysis.specs.Cases
 
 -- ---- a decision
 

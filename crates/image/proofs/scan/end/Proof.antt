@@ -1,17 +1,14 @@
 -- `scan::end` meets its contract: padding is at most seven bits.
-use mathlib.Core.Path.{_≡_}
-use Prim.Native.Nat.{ℕ, _-_, _*_, min}
+use mathlib.Core.Path.{_≡_, ap, _∙_}
+use Prim.Native.Nat.{_-_, _*_}
 use native.Mathlib.Omega.{arith}
-use Rattle.bits.specs.Bits.{widest}
+use denote.Ref.{now}
+use Rattle.bits.specs.Bits.{valueAt}
 use Rattle.format.specs.Fault.{endFault}
 use Rattle.format.specs.Places.{bytesTo}
 use borrow.Author.Needs.{needs}
 use Rattle.image.proofs.scan.end.Statement.{statement}
 use Rattle.image.proofs.scan.end.Tie as tie
-
--- padding is at most seven bits
-few : (p : ℕ) → min (8 * bytesTo p - p) widest ≡ 8 * bytesTo p - p
-few p = omega arith
 
 add-bytes : tie.Need-add-bytes
 add-bytes c = search needs
@@ -37,7 +34,11 @@ then-requires c κs = tt
 returns : tie.Need-returns
 unfolding endFault
 returns c =
-    rw (c .then .ensures, c .before .check2 .ensures, c .before .before .check .ensures, c .before .before .before .value .ensures, few (c .before .before .before .before .before .args .at))
+    let v = c .before .before .before in
+    let x = v .before .before .args in
+    let padding : v .value .result ≡ valueAt (now (x .image)) (x .at) (8 * bytesTo (x .at) - x .at) =
+    v .value .ensures ∙ ap (valueAt (now (x .image)) (x .at)) (omega arith) in
+    rw (c .then .ensures, c .before .check2 .ensures, c .before .before .check .ensures, padding)
 
 pub end-spec : {M : Type 1} → statement M
 end-spec =
