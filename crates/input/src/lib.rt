@@ -1,5 +1,5 @@
-// One image from standard input, and under which budget it is asked. No contract can say which bytes a read gives; what is
-// promised is that the count lies within the buffer, and that a failed read is told apart from the end of the input.
+// One image from standard input, and under which budget it is asked. No contract can say which bytes a read gives, or that it
+// failed; what is promised is that the count lies within the buffer, and that nothing fails where there is no room to read.
 use image::Reading;
 use libc::STDIN_FILENO;
 ghost use lib.ListN.{length};
