@@ -58,7 +58,7 @@ candidate-requires : tie.Need-candidate-requires Inv-loop μ-loop
 candidate-requires c κs =
     let d = c .before .before in
     let (lent, (subject, (mode, within))) = d .before .before .before .pre in
-    (lent, (subject, (mode, (runs (d .before), (rw (← d .tasks .ensures) (c .loop-test .taken), c .before .loop .inv .within)))))
+    (lent, (subject, (mode, (runs (d .before), (omega (arith, c .loop-test .taken, d .tasks .ensures), c .before .loop .inv .within)))))
 
 enum-known-step : tie.Need-enum-known-step Inv-loop μ-loop
 enum-known-step c = search needs
