@@ -12,8 +12,8 @@ fn parsed<N: FromStr>(name: &str, text: Option<OsString>) -> Result<N, String> {
     number.ok_or(format!("{name} needs a number"))
 }
 
-pub fn needed(name: &str, number: Option<u64>) -> Result<u64, String> {
-    number.ok_or(format!("{name} is missing"))
+pub fn needed<T>(name: &str, given: Option<T>) -> Result<T, String> {
+    given.ok_or(format!("{name} is missing"))
 }
 
 impl Arguments {
@@ -63,14 +63,18 @@ impl Arguments {
         at.map(|at| self.rest.remove(at)).is_some()
     }
 
-    /// Everything after `--program`.
-    pub fn program(&mut self) -> Result<Vec<OsString>, String> {
-        let at = self.rest.iter().position(|word| word == "--program");
-        let program = self.rest.split_off(at.ok_or("--program is missing")?);
-        if program.len() < 2 {
+    /// Everything after `--program`, all of which is then gone.
+    pub fn program_if_given(&mut self) -> Result<Option<Vec<OsString>>, String> {
+        let Some(at) = self.rest.iter().position(|word| word == "--program") else { return Ok(None) };
+        let program = self.rest.split_off(at).split_off(1);
+        if program.is_empty() {
             return Err("--program needs a command".into());
         }
-        Ok(program[1..].to_vec())
+        Ok(Some(program))
+    }
+
+    pub fn program(&mut self) -> Result<Vec<OsString>, String> {
+        needed("--program", self.program_if_given()?)
     }
 
     pub fn end(self) -> Result<(), String> {

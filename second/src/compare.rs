@@ -7,8 +7,8 @@ use crate::stream;
 use std::collections::BTreeMap;
 use std::ffi::OsString;
 use std::fmt::{self, Display};
-use std::io::{self, Read, Write};
-use std::process::{Command, Stdio};
+use std::io::{self, Write};
+use std::process::{Command, Output, Stdio};
 
 pub struct Plan {
     pub cases: u64,
@@ -19,7 +19,7 @@ pub struct Plan {
 
 /// How often each answer came: refusals by case, codes by task.
 #[derive(Default)]
-struct Counts {
+pub struct Counts {
     refused: BTreeMap<u32, u64>,
     accepted: u64,
     codes: BTreeMap<u32, u64>,
@@ -27,7 +27,7 @@ struct Counts {
 }
 
 impl Counts {
-    fn add(&mut self, answer: &Result<Vec<Cells>, Refusal>) {
+    pub fn add(&mut self, answer: &Result<Vec<Cells>, Refusal>) {
         match answer {
             Err(refusal) => *self.refused.entry(refusal.number).or_default() += 1,
             Ok(row) => {
@@ -50,7 +50,10 @@ impl Display for Counts {
         for (code, count) in &self.codes {
             writeln!(out, "code {code}: {count} tasks")?;
         }
-        writeln!(out, "evaluations: {}", self.evaluations)
+        if !self.codes.is_empty() {
+            writeln!(out, "evaluations: {}", self.evaluations)?;
+        }
+        Ok(())
     }
 }
 
@@ -77,8 +80,12 @@ fn batch(
     watch: &mut dyn FnMut(u64),
 ) -> io::Result<Option<String>> {
     let cases: Vec<Case> = (from..to).map(|index| case(plan.seed, index)).collect();
-    let theirs = run(&plan.program, cases.iter().flat_map(stream::encoded).collect())?;
-    let mut lines = theirs.split_inclusive(|&byte| byte == b'\n');
+    let mut command = Command::new(&plan.program[0]);
+    let theirs = run(command.args(&plan.program[1..]), cases.iter().flat_map(stream::encoded).collect())?;
+    if !theirs.status.success() {
+        let _ = writeln!(io::stderr(), "second: the program ended with {}", theirs.status);
+    }
+    let mut lines = theirs.stdout.split_inclusive(|&byte| byte == b'\n');
     for (index, case) in (from..to).zip(&cases) {
         let ours = answer(&case.image, case.budget);
         let line = line(&ours);
@@ -102,20 +109,14 @@ fn batch(
     }))
 }
 
-/// What the program prints for that input.
-fn run(program: &[OsString], input: Vec<u8>) -> io::Result<Vec<u8>> {
-    let mut child =
-        Command::new(&program[0]).args(&program[1..]).stdin(Stdio::piped()).stdout(Stdio::piped()).spawn()?;
+/// What a program prints for that input, and how it ends.
+pub fn run(command: &mut Command, input: Vec<u8>) -> io::Result<Output> {
+    let mut child = command.stdin(Stdio::piped()).stdout(Stdio::piped()).spawn()?;
     let mut stdin = child.stdin.take().expect("piped");
-    // A program that stops early closes the pipe; its missing lines then show as a difference.
+    // A program that stops early closes the pipe; what it then does not print shows as a difference.
     let writer = std::thread::spawn(move || stdin.write_all(&input));
-    let mut output = Vec::new();
-    child.stdout.take().expect("piped").read_to_end(&mut output)?;
+    let output = child.wait_with_output()?;
     let _ = writer.join();
-    let status = child.wait()?;
-    if !status.success() {
-        let _ = writeln!(io::stderr(), "second: the program ended with {status}");
-    }
     Ok(output)
 }
 

@@ -5,6 +5,7 @@ mod answer;
 mod arguments;
 mod bound;
 mod compare;
+mod desk;
 mod draft;
 mod generate;
 mod image;
@@ -35,6 +36,12 @@ const HELP: &str = "usage:
   second generate --cases N --seed S           a stream of cases on stdout
   second compare --cases N --seed S [--batch K] --program COMMAND...
                                                compare COMMAND's lines with our own
+  second words [--open]                        one image on stdin: what explain says of it, with --open only of the
+                                               tasks that are not shown to be in time
+  second show [--aligned]                      one image on stdin: its table as text
+  second words --cases N --seed S --program COMMAND...
+  second show --cases N --seed S --program COMMAND...
+                                               compare COMMAND's text of each image with our own
   second simulate --runs N --seed S [--wide]   play legal runs of random small tables against the bounds
   second simulate FILE [--runs N] [--seed S] [--wide]
                                                play legal runs of the table in FILE (- is stdin): the longest
@@ -125,11 +132,10 @@ fn run(command: &str, mut arguments: Arguments) -> Result<End, Trouble> {
             arguments.end()?;
             let name = program[0].to_string_lossy().into_owned();
             let plan = compare::Plan { cases, seed, batch, program };
-            let mut progress = Progress::on_terminal();
-            let compared = compare::compare(&plan, &mut |done| progress.show("cases", done, cases));
-            drop(progress);
-            ended(compared.map_err(with(name))?)
+            compared(&name, cases, |watch| compare::compare(&plan, watch))
         }
+        "words" => text(desk::Text::Words, arguments),
+        "show" => text(desk::Text::Show, arguments),
         "simulate" => {
             let wide = arguments.flag("--wide");
             let (runs, seed) = (arguments.number_if_given("--runs")?, arguments.number_if_given("--seed")?);
@@ -142,6 +148,35 @@ fn run(command: &str, mut arguments: Arguments) -> Result<End, Trouble> {
         }
         _ => Err(Trouble::Told(format!("there is no command {command}; second help lists them"))),
     }
+}
+
+/// The text of one image, or the comparison of many.
+fn text(text: desk::Text, mut arguments: Arguments) -> Result<End, Trouble> {
+    let program = arguments.program_if_given()?;
+    let (cases, seed) = (arguments.number_if_given("--cases")?, arguments.number_if_given("--seed")?);
+    if program.is_none() && cases.is_none() && seed.is_none() {
+        let with_word = arguments.flag(&format!("--{}", text.word()));
+        arguments.end()?;
+        return print(&text.told(&image_from_stdin()?, with_word).text);
+    }
+    let program = needed("--program", program)?;
+    let (cases, seed) = (needed("--cases", cases)?, needed("--seed", seed)?);
+    arguments.end()?;
+    let name = program[0].to_string_lossy().into_owned();
+    let plan = desk::compare::Plan { text, cases, seed, program };
+    compared(&name, cases, |watch| desk::compare::compare(&plan, watch))
+}
+
+/// Compares with the program of that name, and shows how far it is.
+fn compared(
+    name: &str,
+    cases: u64,
+    compare: impl FnOnce(&mut dyn FnMut(u64)) -> io::Result<(bool, String)>,
+) -> Result<End, Trouble> {
+    let mut progress = Progress::on_terminal();
+    let compared = compare(&mut |done| progress.show("cases", done, cases));
+    drop(progress);
+    ended(compared.map_err(with(name))?)
 }
 
 fn simulate_small(runs: u64, seed: u64, wide: bool) -> Result<End, Trouble> {

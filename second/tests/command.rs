@@ -39,6 +39,12 @@ fn what_cannot_be_carried_out_is_told_with_status_3() {
         (&["generate", "--cases", "many", "--seed", "1"], "--cases needs a number"),
         (&["compare", "--cases", "1", "--seed", "1"], "--program is missing"),
         (&["compare", "--cases", "1", "--seed", "1", "--program", "/no/program"], "/no/program: "),
+        (&["words", "--aligned"], "what is --aligned?"),
+        (&["show", "--open"], "what is --open?"),
+        (&["words", "--cases", "1", "--seed", "1"], "--program is missing"),
+        (&["show", "--cases", "1", "--program", "true"], "--seed is missing"),
+        (&["words", "--open", "--cases", "1", "--seed", "1", "--program", "true"], "what is --open?"),
+        (&["show", "--cases", "1", "--seed", "1", "--program", "/no/program"], "/no/program: "),
         (&["simulate", "/no/file"], "/no/file: "),
         (&["simulate", "/"], "/: "),
         (&["simulate", "--seed", "1"], "--runs is missing"),
@@ -70,7 +76,7 @@ fn a_closed_pipe_ends_it_without_a_word() {
 #[test]
 fn output_that_cannot_be_written_is_told_with_status_3() {
     let Ok(full) = File::options().write(true).open("/dev/full") else { return };
-    for words in [&["help"][..], &["generate", "--cases", "9", "--seed", "1"], &["list"]] {
+    for words in [&["help"][..], &["generate", "--cases", "9", "--seed", "1"], &["list"], &["words"], &["show"]] {
         let output = second(words).stdout(full.try_clone().unwrap()).output().unwrap();
         assert_eq!(output.status.code(), Some(3), "{words:?}");
         assert!(text(&output.stderr).starts_with("second: standard output: "), "{words:?}: {output:?}");
@@ -80,8 +86,11 @@ fn output_that_cannot_be_written_is_told_with_status_3() {
 /// No more of an endless input is read than shows that it is no table.
 #[test]
 fn an_endless_input_is_refused() {
-    let output = second(&["list"]).stdin(File::open("/dev/zero").unwrap()).output().unwrap();
-    assert_eq!(text(&output.stdout), "refused 2 0\n");
+    let words = "image refused (2): edition is not 1, at byte 0, bit 0: edition\n";
+    for (command, expected) in [("list", "refused 2 0\n"), ("words", words), ("show", words)] {
+        let output = second(&[command]).stdin(File::open("/dev/zero").unwrap()).output().unwrap();
+        assert_eq!(text(&output.stdout), expected);
+    }
 }
 
 #[test]
@@ -95,6 +104,31 @@ fn a_program_that_answers_otherwise_is_a_difference() {
     let other = compare(&["true"]);
     assert_eq!(other.status.code(), Some(1), "{other:?}");
     assert!(text(&other.stdout).starts_with("difference at seed 1 case 0 "));
+}
+
+/// A program that takes `open` and `aligned` as its last word, and may say something on standard error.
+#[test]
+fn a_program_that_tells_otherwise_is_a_difference() {
+    let itself = "echo heard >&2; exec \"$0\" \"$1\" ${2:+--$2}";
+    let compare = |command: &str, script: &str| {
+        let words = [command, "--cases", "60", "--seed", "2", "--program", "sh", "-c", script];
+        output(&[&words[..], &[env!("CARGO_BIN_EXE_second"), command]].concat())
+    };
+    for (command, name) in [("words", "words"), ("show", "text")] {
+        let same = compare(command, itself);
+        assert_eq!(same.status.code(), Some(0), "{same:?}");
+        assert!(text(&same.stdout).starts_with(&format!("seed 2: {name} of 60 images, no difference\nrefused 1: ")));
+        assert!(text(&same.stdout).contains("\naccepted: "));
+        assert_eq!(text(&same.stderr), "");
+        let silent = compare(command, "echo heard >&2");
+        assert_eq!(silent.status.code(), Some(1), "{silent:?}");
+        assert!(text(&silent.stdout).starts_with("difference at seed 2 case 0 in line 1\nimage 1"), "{silent:?}");
+        assert_eq!(text(&silent.stderr), "heard\n");
+        let without_the_word = compare(command, "exec \"$0\" \"$1\"");
+        assert_eq!(without_the_word.status.code(), Some(1), "{without_the_word:?}");
+        let more = compare(command, "\"$0\" \"$1\" ${2:+--$2}; printf more");
+        assert!(text(&more.stdout).ends_with("\nmore\nand no line feed at its end\n"), "{more:?}");
+    }
 }
 
 /// The one-task image that document 01 prints.
@@ -120,6 +154,29 @@ fn an_image_on_standard_input_is_listed() {
     let output = output_for(&["list"], &image());
     assert_eq!(text(&output.stdout), "task code bound evaluations\n0 0 3 3\n");
     assert_eq!(output.status.code(), Some(0));
+}
+
+#[test]
+fn an_image_on_standard_input_is_told_in_words_and_shown() {
+    let last = "1 task: all in time; least to spare 7 (task 0)\n";
+    let line = "task trans     period priority      bound   deadline\n   \
+                   0     0         10        5          3         10  in time, 7 to spare\n";
+    let cases = [
+        (&["words"][..], [line, last].concat()),
+        (&["words", "--open"], last.into()),
+        (&["show"], "frame 10\ntrans 10 1\ntask 0 0 0 10 5 3\n".into()),
+        (
+            &["show", "--aligned"],
+            "frame        10\ntrans        10         1\n\
+             task         0         0         0        10         5         3\n"
+                .into(),
+        ),
+    ];
+    for (words, expected) in cases {
+        let output = output_for(words, &image());
+        assert_eq!(text(&output.stdout), expected, "{words:?}");
+        assert_eq!(output.status.code(), Some(0), "{words:?}");
+    }
 }
 
 #[test]

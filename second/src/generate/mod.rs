@@ -18,19 +18,28 @@ pub struct Case {
 
 pub fn case(seed: u64, index: u64) -> Case {
     let random = &mut Random::of(seed, index);
-    let kind = kind(random);
-    let table = tables::table(random, kind);
-    let image = if random.percent(30) {
-        let damage = random.pick(damage::DAMAGES);
-        damage::damaged(random, &table, damage)
-    } else {
-        draft::image(&table)
-    };
+    let image = drawn_image(random);
     let budget = match read(&image) {
         Ok(table) => budget(random, &table),
         Err(_) => random.next() as u32,
     };
     Case { budget, image }
+}
+
+/// The image of a case alone.
+pub fn image(seed: u64, index: u64) -> Vec<u8> {
+    drawn_image(&mut Random::of(seed, index))
+}
+
+fn drawn_image(random: &mut Random) -> Vec<u8> {
+    let kind = kind(random);
+    let table = tables::table(random, kind);
+    if random.percent(30) {
+        let damage = random.pick(damage::DAMAGES);
+        damage::damaged(random, &table, damage)
+    } else {
+        draft::image(&table)
+    }
 }
 
 /// The dear kinds come less often.
@@ -86,4 +95,17 @@ fn budget(random: &mut Random, table: &Table) -> u32 {
 
 fn around(random: &mut Random, needed: u32) -> u32 {
     (needed + random.below(3) as u32).saturating_sub(1)
+}
+
+/// About this many charges are worked out at most to see which tasks of a table come to an end soon.
+const CHARGES_IN_LOOK: usize = 1_000_000;
+/// And this many of each evaluation at most for the others, which may spend the program's budget: some tenths of a second.
+const CHARGES_OF_OTHERS: usize = 20;
+
+/// Whether a table takes long under the program's budget, if its tasks that come to no end soon spend all of it.
+pub fn is_dear(table: &Table) -> bool {
+    let charges = charges_in_evaluation(table);
+    let few = CHARGES_IN_LOOK / (charges * table.numbered().len());
+    let row = all_cells(table, Charging::Imposed, few as u32);
+    charges * row.iter().filter(|cells| cells.code == 23).count() > CHARGES_OF_OTHERS
 }

@@ -1,6 +1,7 @@
 //! What the document and the papers give as figures, and what they leave to be checked on many tables.
 
 mod by_hand;
+mod desk;
 mod given;
 mod legal;
 mod many;

@@ -1,0 +1,49 @@
+//! Comparing the text that another program prints with ours, image by image.
+
+use crate::compare::{hex, run, Counts};
+use crate::desk::Text;
+use crate::generate::image;
+use std::ffi::OsString;
+use std::io::{self, Write};
+use std::process::{Command, Stdio};
+
+pub struct Plan {
+    pub text: Text,
+    pub cases: u64,
+    pub seed: u64,
+    pub program: Vec<OsString>,
+}
+
+/// Whether no image differs, and what is to be said of it. The program is started once for each image, for every second
+/// one with the text's word behind it. A dear image is left out and another taken. `watch` gets the number of images so
+/// far.
+pub fn compare(plan: &Plan, watch: &mut dyn FnMut(u64)) -> io::Result<(bool, String)> {
+    let mut counts = Counts::default();
+    let cheap = (0..).map(|index| (index, image(plan.seed, index))).filter(|(_, image)| !plan.text.is_dear(image));
+    for (done, (index, image)) in (1..=plan.cases).zip(cheap) {
+        let word = (index % 2 == 1).then_some(plan.text.word());
+        let ours = plan.text.told(&image, word.is_some());
+        let mut command = Command::new(&plan.program[0]);
+        command.args(&plan.program[1..]).args(word).stderr(Stdio::piped());
+        let theirs = run(&mut command, image.clone())?;
+        if theirs.stdout != ours.text.as_bytes() {
+            // What it says on standard error is not compared, but it may be the reason.
+            let _ = io::stderr().write_all(&theirs.stderr);
+            let at =
+                format!("seed {} case {index}{}", plan.seed, word.map_or(String::new(), |word| format!(" {word}")));
+            return Ok((false, difference(&at, &image, &ours.text, &theirs.stdout)));
+        }
+        counts.add(&ours.answer);
+        watch(done);
+    }
+    let Plan { text, cases, seed, .. } = plan;
+    Ok((true, format!("seed {seed}: {} of {cases} images, no difference\n{counts}", text.name())))
+}
+
+fn difference(at: &str, image: &[u8], ours: &str, theirs: &[u8]) -> String {
+    let same = ours.bytes().zip(theirs).take_while(|(our, their)| our == *their);
+    let line = 1 + same.filter(|(our, _)| *our == b'\n').count();
+    let theirs = String::from_utf8_lossy(theirs);
+    let end = if theirs.is_empty() || theirs.ends_with('\n') { "" } else { "\nand no line feed at its end\n" };
+    format!("difference at {at} in line {line}\nimage {}\nsecond:\n{ours}program:\n{theirs}{end}", hex(image))
+}
