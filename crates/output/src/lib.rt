@@ -1,0 +1,108 @@
+// How a program begins, writes and ends: the words that it is started with, the image, an answer with every failed write noticed,
+// and a verdict. It knows the refusals and the fields of an image; it knows nothing of the analysis.
+mod page;
+mod refusing;
+mod words;
+
+use input::Input;
+use libc::STDERR_FILENO;
+pub use page::begin_line;
+pub use page::cell;
+pub use page::count;
+pub use page::end_line;
+pub use page::grouped;
+pub use page::number;
+pub use page::say;
+pub use refusing::refused;
+use words::Asked;
+pub use words::Words;
+use words::given;
+ghost use Rattle.io.specs.Counts.{Counts};
+
+// What the runner reads the verdict on: a program has no exit status.
+const VERDICT_FILENO: i32 = 3;
+
+// What a program found, for the runner.
+pub enum Verdict {
+    // Accepted, and every task keeps its deadline or none was asked for.
+    Kept,
+    // Accepted, and some task is not shown to keep it.
+    NotShown,
+    Refused,
+}
+
+// Says on standard error what failed, and errno's reason.
+fn failed(name: &[u8], what: &[u8]) {
+    io::write_all(STDERR_FILENO, name);
+    os::fail(what);
+}
+
+// How a program began: the words that it was given, and how many bytes of the image stand in the buffer. Where it is not ready,
+// standard error says why.
+pub struct Begun {
+    pub words: Words,
+    pub ready: bool,
+    pub n: usize,
+}
+
+// Takes in the words, of which the program knows these, and the image on standard input.
+pub fn begin(name: &[u8], known: Words, image: &mut [u8]) -> Begun
+    ensures { λ r. ⌜ Counts (r .n) (now (image .exit)) ⌝ }
+{
+    let Asked::Known(words) = given(name, known) else {
+        return Begun {
+            words: known,
+            ready: false,
+            n: 0,
+        };
+    };
+    match input::take_in(image) {
+        Input::Bytes(n) => Begun {
+            words,
+            ready: true,
+            n,
+        },
+        Input::Failed => {
+            failed(name, b": the input cannot be read");
+            Begun {
+                words,
+                ready: false,
+                n: 0,
+            }
+        }
+    }
+}
+
+fn tell(verdict: Verdict) -> bool {
+    match verdict {
+        Verdict::Kept => io::write_all(VERDICT_FILENO, b"0\n"),
+        Verdict::NotShown => io::write_all(VERDICT_FILENO, b"1\n"),
+        Verdict::Refused => io::write_all(VERDICT_FILENO, b"2\n"),
+    }
+}
+
+// The end of a program: what went wrong, a hint at a text that was taken for an image, and the verdict where it is asked for and
+// the whole answer was written.
+pub fn end(name: &[u8], words: Words, image: &[u8], whole: bool, verdict: Verdict) {
+    if !whole {
+        failed(name, b": the answer cannot be written");
+        return;
+    }
+    if let Verdict::Refused = verdict {
+        let text = printable::is_text(image);
+        if text {
+            io::write_all(STDERR_FILENO, name);
+            io::write_all(
+                STDERR_FILENO,
+                b": this looks like text or a hex dump, and a table image is neither; a plain hex dump becomes one by xxd -r -p\n",
+            );
+        }
+    }
+    let asked = words.verdict;
+    if asked {
+        let told = tell(verdict);
+        if !told {
+            failed(name, b": the verdict cannot be written");
+        }
+    }
+}

@@ -1,0 +1,77 @@
+// A refusal in words: its number, its reason, and its place by byte, bit and field.
+use super::page::number;
+use super::page::say;
+use places::Field;
+use refusals::Refusal;
+
+fn reason(whole: bool, refusal: Refusal) -> bool {
+    match refusal {
+        Refusal::EndsInside => say(whole, b"it ends inside a field"),
+        Refusal::EditionUnknown => say(whole, b"edition is not 1"),
+        Refusal::FrameZero => say(whole, b"the major frame is 0"),
+        Refusal::TransactionCount => say(whole, b"not 1 to 32 transactions"),
+        Refusal::PeriodUnfit => say(
+            whole,
+            b"a period that is 0 or does not divide the major frame",
+        ),
+        Refusal::ModeCount => say(whole, b"not 1 to 8 modes"),
+        Refusal::TaskCount => say(
+            whole,
+            b"not 1 to 16 tasks in a transaction, or more than 64 in all",
+        ),
+        Refusal::DeadlineZero => say(whole, b"a deadline of 0"),
+        Refusal::NeverRuns => say(whole, b"a task with time 0 in every mode"),
+        Refusal::PaddingSet => say(whole, b"a padding bit is 1"),
+        Refusal::BytesFollow => say(whole, b"bytes follow the table"),
+        Refusal::NoRoom => say(whole, b"too few cells for the answers"),
+        Refusal::NoTask => say(whole, b"no task of that number"),
+    }
+}
+
+// A text, and behind it a number.
+fn counted(whole: bool, text: &[u8], n: usize) -> bool {
+    number(say(whole, text), n as u64, 0)
+}
+
+fn of_task(whole: bool, text: &[u8], u: usize, k: usize) -> bool {
+    counted(counted(whole, text, k), b", transaction ", u)
+}
+
+fn named(whole: bool, at: Field, refusal: Refusal) -> bool {
+    match at {
+        Field::Edition => say(whole, b"edition"),
+        Field::Frame => say(whole, b"major frame"),
+        Field::Transactions => say(whole, b"number of transactions"),
+        Field::Period(u) => counted(whole, b"period of transaction ", u),
+        Field::Modes(u) => counted(whole, b"number of modes of transaction ", u),
+        Field::Tasks(u) => counted(whole, b"number of tasks of transaction ", u),
+        Field::Offset(u, k) => of_task(whole, b"offset of task ", u, k),
+        Field::Jitter(u, k) => of_task(whole, b"jitter of task ", u, k),
+        Field::Blocking(u, k) => of_task(whole, b"blocking of task ", u, k),
+        Field::Deadline(u, k) => of_task(whole, b"deadline of task ", u, k),
+        Field::Priority(u, k) => of_task(whole, b"priority of task ", u, k),
+        Field::Time(u, k, m) => counted(
+            counted(
+                counted(whole, b"execution time of task ", k),
+                b" in mode ",
+                m,
+            ),
+            b", transaction ",
+            u,
+        ),
+        Field::Behind => match refusal {
+            Refusal::BytesFollow => say(whole, b"the first byte behind the table"),
+            _ => say(whole, b"padding"),
+        },
+    }
+}
+
+// The line for an image that is refused.
+pub fn refused(whole: bool, image: &[u8], refusal: Refusal, at: usize) -> bool {
+    let whole = counted(whole, b"image refused (", refusal.number() as usize);
+    let whole = reason(say(whole, b"): "), refusal);
+    let whole = counted(whole, b", at byte ", at / 8);
+    let whole = counted(whole, b", bit ", at % 8);
+    let whole = named(say(whole, b": "), places::field_at(image, at), refusal);
+    say(whole, b"\n")
+}
