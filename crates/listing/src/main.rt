@@ -1,61 +1,95 @@
 // The technician's listing: a line for each task of the table on standard input, or the refusal. All that matters is in
 // the library; what is printed is held to stored output by the check.
-use input::Input;
-use libc::STDERR_FILENO;
-use libc::STDOUT_FILENO;
+use output::Verdict;
+use output::Words;
 use row::Table;
 use sumpcandle::Filled;
 use sumpcandle::TaskCells;
 
-fn wide(x: u32) -> u64 {
-    x as u64
-}
-
-fn number(x: u64) {
-    io::write_all(STDOUT_FILENO, b" ");
-    io::print_decimal(STDOUT_FILENO, x);
-}
-
-fn line(cells: &[u32; sumpcandle::CELLS], k: usize) {
+fn line(whole: bool, cells: &[u32; sumpcandle::CELLS], k: usize) -> bool {
     if Table::TASKS <= k {
-        return;
+        return whole;
     }
-    io::print_decimal(STDOUT_FILENO, k as u64);
-    number(wide(cells[TaskCells::COUNT * k + TaskCells::CODE_CELL]));
-    number(wide(cells[TaskCells::COUNT * k + TaskCells::BOUND_CELL]));
-    number(wide(cells[TaskCells::COUNT * k + TaskCells::EVALUATIONS_CELL]));
-    io::write_all(STDOUT_FILENO, b"\n");
+    let whole = output::number(whole, k as u64, 0);
+    let whole = output::cell(
+        whole,
+        cells[TaskCells::COUNT * k + TaskCells::CODE_CELL],
+        false,
+    );
+    let whole = output::cell(
+        whole,
+        cells[TaskCells::COUNT * k + TaskCells::BOUND_CELL],
+        false,
+    );
+    let whole = output::cell(
+        whole,
+        cells[TaskCells::COUNT * k + TaskCells::EVALUATIONS_CELL],
+        false,
+    );
+    output::say(whole, b"\n")
 }
 
-fn lines(cells: &[u32; sumpcandle::CELLS], tasks: usize) {
-    io::write_all(STDOUT_FILENO, b"task code bound evaluations\n");
+fn lines(cells: &[u32; sumpcandle::CELLS], tasks: usize) -> bool {
+    let mut whole = output::say(true, b"task code bound evaluations\n");
     for k in 0..tasks {
-        line(cells, k);
+        whole = line(whole, cells, k);
     }
+    whole
 }
 
-fn refused(told: Filled) {
-    io::write_all(STDOUT_FILENO, b"refused");
-    number(wide(told.number()));
-    number(told.place() as u64);
-    io::write_all(STDOUT_FILENO, b"\n");
+fn found(cells: &[u32; sumpcandle::CELLS], tasks: usize) -> Verdict {
+    for k in 0..tasks {
+        if k < Table::TASKS {
+            if cells[TaskCells::COUNT * k + TaskCells::CODE_CELL] != TaskCells::KEPT {
+                return Verdict::NotShown;
+            }
+        }
+    }
+    Verdict::Kept
 }
 
-fn list(image: &[u8]) {
+fn refused(told: Filled) -> bool {
+    let whole = output::say(true, b"refused");
+    let whole = output::cell(whole, told.number(), false);
+    let whole = output::number(output::say(whole, b" "), told.place() as u64, 0);
+    output::say(whole, b"\n")
+}
+
+fn list(words: Words, image: &[u8]) {
     let mut cells = [0u32; sumpcandle::CELLS];
     let told = sumpcandle::cells(image, input::BUDGET, &mut cells);
     match told {
-        Filled::Done(tasks) => lines(&cells, tasks),
-        Filled::Refused(_, _) => refused(told),
+        Filled::Done(tasks) => output::end(
+            b"listing",
+            words,
+            image,
+            lines(&cells, tasks),
+            found(&cells, tasks),
+        ),
+        Filled::Refused(_, _) => output::end(
+            b"listing",
+            words,
+            image,
+            refused(told),
+            Verdict::Refused,
+        ),
     }
 }
 
 fn main() {
     let mut image = [0u8; input::BUFFER];
-    match input::take_in(&mut image) {
-        Input::Bytes(n) => list(&image[..n]),
-        Input::Failed => {
-            io::write_all(STDERR_FILENO, b"listing: standard input cannot be read\n");
-        }
+    let begun = output::begin(
+        b"listing",
+        Words {
+            verdict: true,
+            open: false,
+            colour: false,
+            aligned: false,
+        },
+        &mut image,
+    );
+    let n = begun.n;
+    if begun.ready {
+        list(begun.words, &image[..n]);
     }
 }

@@ -1,20 +1,20 @@
 -- `listing::lines` ends: each turn leaves fewer tasks.
-use borrow.Author.Needs.{needs}
 use Prim.Native.Nat.{_-_, _≤_}
+use borrow.Author.Needs.{needs}
 use Rattle.listing.proofs.lines.Statement.{statement}
 use Rattle.listing.proofs.lines.Tie as tie
 
 abbrev Inv-loop : tie.InvT-loop
-Inv-loop cells tasks k₀ k = k ≤ tasks
+Inv-loop cells tasks whole₀ k₀ whole k = k ≤ tasks
 
 abbrev μ-loop : tie.MeasureT-loop
-μ-loop cells tasks k₀ k = tasks - k
+μ-loop cells tasks whole₀ k₀ whole k = tasks - k
 
-slice-aggregate-write-all : tie.Need-slice-aggregate-write-all Inv-loop μ-loop
-slice-aggregate-write-all c = search needs
+slice-aggregate-say : tie.Need-slice-aggregate-say Inv-loop μ-loop
+slice-aggregate-say c = search needs
 
-write-all-requires : tie.Need-write-all-requires Inv-loop μ-loop
-write-all-requires c κs = search needs
+say-requires : tie.Need-say-requires Inv-loop μ-loop
+say-requires c κs = search needs
 
 loop-holds : tie.Need-loop-holds Inv-loop μ-loop
 loop-holds c = search needs
@@ -40,8 +40,8 @@ lines-spec =
     (tie.spec
     Inv-loop
     μ-loop
-    slice-aggregate-write-all
-    write-all-requires
+    slice-aggregate-say
+    say-requires
     loop-holds
     line-requires
     add-k
