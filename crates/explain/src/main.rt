@@ -1,136 +1,285 @@
-// The listing in words, for the table on standard input.
-use input::Input;
-use libc::STDERR_FILENO;
-use libc::STDOUT_FILENO;
-use refusals::Refusal;
+// The listing in columns and words, for the table on standard input, and a last line over all tasks.
+use output::Verdict;
+use output::Words;
 use row::Table;
 use sumpcandle::Filled;
 use sumpcandle::TaskCells;
+ghost use mathlib.Core.Path.{_≡_};
+ghost use Prim.Native.Nat.{_+_, _^_, _<_};
 
-fn wide(x: u32) -> u64 {
-    x as u64
+// More than any bound and any deadline: how far a task without a bound counts as above its deadline.
+const FAR: u64 = 4_294_967_296;
+
+// What is told of a task, with bound 0 where there is none, and its deadline.
+struct Line {
+    code: u32,
+    bound: u32,
+    deadline: u32,
 }
 
-fn say(text: &[u8]) {
-    io::write_all(STDOUT_FILENO, text);
+// Of the tasks so far: how many are in time and how many are not shown to be, which of these is worst and how far it is above, and which of
+// the others has the least to spare.
+struct Summary {
+    kept: u64,
+    open: u64,
+    worst: usize,
+    above: u64,
+    nearest: usize,
+    spare: u64,
 }
 
-fn number(x: u64) {
-    io::print_decimal(STDOUT_FILENO, x);
+fn beyond(x: u32, y: u32) -> u64 {
+    if y < x { (x - y) as u64 } else { 0 }
 }
 
-fn ticks(x: u32) {
-    number(wide(x));
-    if x == 1 {
-        say(b" tick");
-    } else {
-        say(b" ticks");
-    }
-}
-
-fn beyond(x: u32, y: u32) -> u32 {
-    if y < x { x - y } else { 0 }
-}
-
-// A task that has a bound, and its deadline.
-fn bounded(bound: u32, deadline: u32) {
-    say(b" finishes up to ");
-    ticks(bound);
-    say(b" after its event, its deadline is ");
-    number(wide(deadline));
-}
-
-// What the code of a task says, with its bound and its deadline.
-fn meaning(code: u32, bound: u32, deadline: u32) {
-    if code == TaskCells::KEPT {
-        bounded(bound, deadline);
-        say(b": in time, with ");
-        number(wide(beyond(deadline, bound)));
-        say(b" to spare");
-    } else if code == TaskCells::LATE {
-        bounded(bound, deadline);
-        say(b": not shown to keep it, the bound is ");
-        number(wide(beyond(bound, deadline)));
-        say(b" above");
-    } else if code == TaskCells::OVERLOAD {
-        say(
-            b" has no bound: it and the tasks that can delay it may want more than the major frame holds",
-        );
-    } else if code == TaskCells::BEYOND {
-        say(b" has no bound: no busy time up to the horizon of ");
-        ticks(Table::HORIZON);
-        say(b" was found to end");
-    } else if code == TaskCells::SPENT {
-        say(b" is not decided: ");
-        number(wide(input::BUDGET));
-        say(b" evaluations were not enough");
-    } else {
-        say(b" has a code that is not known here: ");
-        number(wide(code));
-    }
-}
-
-fn task(cells: &[u32; sumpcandle::CELLS], k: usize, deadline: u32) {
+fn line_of(cells: &[u32; sumpcandle::CELLS], table: &[u32], k: usize) -> Line {
+    let deadline = Table::deadline(table, k);
     if Table::TASKS <= k {
-        return;
+        return Line {
+            code: TaskCells::KEPT,
+            bound: TaskCells::NO_BOUND,
+            deadline,
+        };
     }
-    say(b"task ");
-    number(k as u64);
-    meaning(
-        cells[TaskCells::COUNT * k + TaskCells::CODE_CELL],
-        cells[TaskCells::COUNT * k + TaskCells::BOUND_CELL],
+    Line {
+        code: cells[TaskCells::COUNT * k + TaskCells::CODE_CELL],
+        bound: cells[TaskCells::COUNT * k + TaskCells::BOUND_CELL],
         deadline,
-    );
-    say(b"\n");
+    }
 }
 
-fn every_task(cells: &[u32; sumpcandle::CELLS], tasks: usize, table: &[u32; Table::CELLS]) {
+// The first of equals stays.
+fn with(s: Summary, k: usize, line: Line) -> Summary
+    requires { ⌜ s .kept + s .open + 1 < 2 ^ 64 ⌝ }
+    ensures { λ r. ⌜ r .kept + r .open ≡ s .kept + s .open + 1 ⌝ }
+{
+    if line.code == TaskCells::KEPT {
+        let spare = beyond(line.deadline, line.bound);
+        let nearer = spare < s.spare;
+        return Summary {
+            kept: s.kept + 1,
+            open: s.open,
+            worst: s.worst,
+            above: s.above,
+            nearest: if nearer { k } else { s.nearest },
+            spare: if nearer { spare } else { s.spare },
+        };
+    }
+    let above = if line.code == TaskCells::LATE {
+        beyond(line.bound, line.deadline)
+    } else {
+        FAR
+    };
+    let worse = s.above < above;
+    Summary {
+        kept: s.kept,
+        open: s.open + 1,
+        worst: if worse { k } else { s.worst },
+        above: if worse { above } else { s.above },
+        nearest: s.nearest,
+        spare: s.spare,
+    }
+}
+
+fn over_all(cells: &[u32; sumpcandle::CELLS], table: &[u32], tasks: usize) -> Summary {
+    let mut s = Summary {
+        kept: 0,
+        open: 0,
+        worst: 0,
+        above: 0,
+        nearest: 0,
+        spare: FAR,
+    };
     for k in 0..tasks {
-        task(cells, k, Table::deadline(table, k));
+        s = with(s, k, line_of(cells, table, k));
     }
+    s
 }
 
-fn reason(refusal: Refusal) {
-    match refusal {
-        Refusal::EndsInside => say(b"it ends inside a field"),
-        Refusal::EditionUnknown => say(b"edition is not 1"),
-        Refusal::FrameZero => say(b"the major frame is 0"),
-        Refusal::TransactionCount => say(b"not 1 to 32 transactions"),
-        Refusal::PeriodUnfit => say(b"a period that is 0 or does not divide the major frame"),
-        Refusal::ModeCount => say(b"not 1 to 8 modes"),
-        Refusal::TaskCount => say(b"not 1 to 16 tasks in a transaction, or more than 64 in all"),
-        Refusal::DeadlineZero => say(b"a deadline of 0"),
-        Refusal::NeverRuns => say(b"a task with time 0 in every mode"),
-        Refusal::PaddingSet => say(b"a padding bit is 1"),
-        Refusal::BytesFollow => say(b"bytes follow the table"),
-        Refusal::NoRoom => say(b"too few cells for the answers"),
-        Refusal::NoTask => say(b"no task of that number"),
+// Each column but the first has a blank before it.
+fn columns(whole: bool, table: &[u32], k: usize, line: Line) -> bool {
+    let u = Table::owner(table, k);
+    let whole = output::grouped(whole, k as u64, 4);
+    let whole = output::grouped(whole, u as u64, 6);
+    let whole = output::grouped(whole, Table::period(table, u as usize) as u64, 11);
+    let whole = output::grouped(whole, Table::priority(table, k) as u64, 9);
+    let whole = if line.bound == TaskCells::NO_BOUND {
+        output::say(whole, b"          -")
+    } else {
+        output::grouped(whole, line.bound as u64, 11)
+    };
+    output::grouped(whole, line.deadline as u64, 11)
+}
+
+fn meaning(whole: bool, line: Line) -> bool {
+    let code = line.code;
+    if code == TaskCells::KEPT {
+        return output::count(
+            whole,
+            b"  in time, ",
+            beyond(line.deadline, line.bound),
+            b" to spare",
+        );
     }
+    if code == TaskCells::LATE {
+        return output::count(
+            whole,
+            b"  not shown to be in time, ",
+            beyond(line.bound, line.deadline),
+            b" above",
+        );
+    }
+    if code == TaskCells::OVERLOAD {
+        return output::say(
+            whole,
+            b"  no bound: it and the tasks that can delay it may want more than the major frame holds",
+        );
+    }
+    if code == TaskCells::BEYOND {
+        return output::count(
+            whole,
+            b"  no bound: no busy time up to the horizon of ",
+            Table::HORIZON as u64,
+            b" ticks was found to end",
+        );
+    }
+    if code == TaskCells::SPENT {
+        return output::count(
+            whole,
+            b"  not decided: ",
+            input::BUDGET as u64,
+            b" evaluations were not enough",
+        );
+    }
+    output::count(
+        whole,
+        b"  a code that is not known here: ",
+        code as u64,
+        b"",
+    )
 }
 
-fn refused(refusal: Refusal, at: usize) {
-    say(b"image refused: ");
-    reason(refusal);
-    say(b", at bit ");
-    number(at as u64);
-    say(b"\n");
+fn task(whole: bool, words: Words, table: &[u32], k: usize, line: Line) -> bool {
+    let kept = line.code == TaskCells::KEPT;
+    let hidden = words.open & kept;
+    if hidden {
+        return whole;
+    }
+    let red = words.colour & !kept;
+    let whole = columns(output::begin_line(whole, red), table, k, line);
+    output::end_line(meaning(whole, line), red)
 }
 
-fn explain(image: &[u8]) {
+fn every_task(
+    words: Words,
+    cells: &[u32; sumpcandle::CELLS],
+    table: &[u32],
+    tasks: usize,
+    open: u64,
+) -> bool {
+    let mut whole = true;
+    let shown = !words.open | (0 < open);
+    if shown {
+        whole = output::say(
+            whole,
+            b"task trans     period priority      bound   deadline\n",
+        );
+    }
+    for k in 0..tasks {
+        whole = task(whole, words, table, k, line_of(cells, table, k));
+    }
+    whole
+}
+
+// How many are in time, how many not, and the worst of these.
+fn not_all(whole: bool, s: Summary, worst: Line) -> bool {
+    let whole = output::count(whole, b"", s.kept, b" in time, ");
+    let whole = output::count(whole, b"", s.open, b" not shown to be (");
+    let whole = if 1 < s.open {
+        output::say(whole, b"worst ")
+    } else {
+        whole
+    };
+    let whole = output::count(whole, b"task ", s.worst as u64, b", ");
+    if worst.code == TaskCells::LATE {
+        return output::count(whole, b"", s.above, b" above)");
+    }
+    if worst.code == TaskCells::SPENT {
+        return output::say(whole, b"not decided)");
+    }
+    output::say(whole, b"no bound)")
+}
+
+fn last_line(whole: bool, words: Words, tasks: usize, s: Summary, worst: Line) -> bool {
+    let red = words.colour & (0 < s.open);
+    let whole = output::begin_line(whole, red);
+    let whole = if tasks == 1 {
+        output::say(whole, b"1 task: ")
+    } else {
+        output::count(whole, b"", tasks as u64, b" tasks: ")
+    };
+    let whole = if s.open == 0 {
+        output::say(whole, b"all in time")
+    } else {
+        not_all(whole, s, worst)
+    };
+    if s.kept == 0 {
+        return output::end_line(whole, red);
+    }
+    let whole = output::count(whole, b"; least to spare ", s.spare, b" (task ");
+    let whole = output::count(whole, b"", s.nearest as u64, b")");
+    output::end_line(whole, red)
+}
+
+// All lines, and whether every task is in time.
+fn accepted(
+    words: Words,
+    image: &[u8],
+    cells: &[u32; sumpcandle::CELLS],
+    table: &[u32],
+    tasks: usize,
+) {
+    let s = over_all(cells, table, tasks);
+    let whole = every_task(words, cells, table, tasks, s.open);
+    let worst = line_of(cells, table, s.worst);
+    let whole = last_line(whole, words, tasks, s, worst);
+    let verdict = if s.open == 0 {
+        Verdict::Kept
+    } else {
+        Verdict::NotShown
+    };
+    output::end(b"explain", words, image, whole, verdict);
+}
+
+fn explain(words: Words, image: &[u8]) {
     let table = image::read(image).table;
     let mut cells = [0u32; sumpcandle::CELLS];
     match sumpcandle::cells(image, input::BUDGET, &mut cells) {
-        Filled::Refused(refusal, at) => refused(refusal, at),
-        Filled::Done(tasks) => every_task(&cells, tasks, &table.cells),
+        Filled::Refused(refusal, at) => output::end(
+            b"explain",
+            words,
+            image,
+            output::refused(true, image, refusal, at),
+            Verdict::Refused,
+        ),
+        Filled::Done(tasks) => accepted(words, image, &cells, &table.cells, tasks),
     }
 }
 
 fn main() {
     let mut image = [0u8; input::BUFFER];
-    match input::take_in(&mut image) {
-        Input::Bytes(n) => explain(&image[..n]),
-        Input::Failed => {
-            io::write_all(STDERR_FILENO, b"explain: standard input cannot be read\n");
-        }
+    let begun = output::begin(
+        b"explain",
+        Words {
+            verdict: true,
+            open: true,
+            colour: true,
+            aligned: false,
+        },
+        &mut image,
+    );
+    let n = begun.n;
+    if begun.ready {
+        explain(begun.words, &image[..n]);
     }
 }

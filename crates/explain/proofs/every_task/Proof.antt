@@ -1,20 +1,26 @@
 -- `explain::every_task` ends: each turn leaves fewer tasks.
-use borrow.Author.Needs.{needs}
 use Prim.Native.Nat.{_-_, _≤_}
+use borrow.Author.Needs.{needs}
 use Rattle.explain.proofs.every_task.Statement.{statement}
 use Rattle.explain.proofs.every_task.Tie as tie
 
 abbrev Inv-loop : tie.InvT-loop
-Inv-loop cells tasks table k₀ k = k ≤ tasks
+Inv-loop words cells table tasks «open» whole₀ shown k₀ whole k = k ≤ tasks
 
 abbrev μ-loop : tie.MeasureT-loop
-μ-loop cells tasks table k₀ k = tasks - k
+μ-loop words cells table tasks «open» whole₀ shown k₀ whole k = tasks - k
+
+slice-aggregate-say : tie.Need-slice-aggregate-say Inv-loop μ-loop
+slice-aggregate-say c = search needs
+
+say-requires : tie.Need-say-requires Inv-loop μ-loop
+say-requires c κs = search needs
 
 loop-holds : tie.Need-loop-holds Inv-loop μ-loop
 loop-holds c = search needs
 
-deadline-requires : tie.Need-deadline-requires Inv-loop μ-loop
-deadline-requires c κs = search needs
+line-of-requires : tie.Need-line-of-requires Inv-loop μ-loop
+line-of-requires c κs = search needs
 
 task-requires : tie.Need-task-requires Inv-loop μ-loop
 task-requires c κs = search needs
@@ -37,8 +43,10 @@ every-task-spec =
     (tie.spec
     Inv-loop
     μ-loop
+    slice-aggregate-say
+    say-requires
     loop-holds
-    deadline-requires
+    line-of-requires
     task-requires
     add-k
     loop-less
