@@ -168,7 +168,7 @@ fn an_image_on_standard_input_is_told_in_words_and_shown() {
         (
             &["show", "--aligned"],
             "frame        10\ntrans        10         1\n\
-             task         0         0         0        10         5         3\n"
+             task          0         0         0        10         5         3\n"
                 .into(),
         ),
     ];

@@ -17,8 +17,8 @@ struct Line {
     deadline: u32,
 }
 
-// Of the tasks so far: how many are in time and how many are not shown to be, which of these is worst and how far it is above, and which of
-// the others has the least to spare.
+// Of the tasks so far: how many are in time and how many are not shown to be, which of these is worst and how far it is above,
+// and which of the others has the least to spare.
 struct Summary {
     kept: u64,
     open: u64,
@@ -243,7 +243,7 @@ fn accepted(
     let whole = every_task(words, cells, table, tasks, s.open);
     let worst = line_of(cells, table, s.worst);
     let whole = last_line(whole, words, tasks, s, worst);
-    let verdict = if s.open == 0 {
+    let verdict = if TaskCells::all_kept(cells, tasks) {
         Verdict::Kept
     } else {
         Verdict::NotShown

@@ -38,14 +38,11 @@ fn lines(cells: &[u32; sumpcandle::CELLS], tasks: usize) -> bool {
 }
 
 fn found(cells: &[u32; sumpcandle::CELLS], tasks: usize) -> Verdict {
-    for k in 0..tasks {
-        if k < Table::TASKS {
-            if cells[TaskCells::COUNT * k + TaskCells::CODE_CELL] != TaskCells::KEPT {
-                return Verdict::NotShown;
-            }
-        }
+    if TaskCells::all_kept(cells, tasks) {
+        Verdict::Kept
+    } else {
+        Verdict::NotShown
     }
-    Verdict::Kept
 }
 
 fn refused(told: Filled) -> bool {

@@ -27,7 +27,12 @@ fn task(whole: bool, row: &[u32], k: usize, aligned: bool) -> bool {
     } else {
         whole
     };
-    let whole = output::say(whole, b"task");
+    // in columns it is as wide as the other words
+    let whole = if aligned {
+        output::say(whole, b"task ")
+    } else {
+        output::say(whole, b"task")
+    };
     let whole = output::cell(whole, Table::offset(row, k), aligned);
     let whole = output::cell(whole, Table::jitter(row, k), aligned);
     let whole = output::cell(whole, Table::blocking(row, k), aligned);

@@ -5,7 +5,8 @@ use crate::table::{Table, Task, Transaction};
 fn line(first: &str, numbers: &[i64], is_aligned: bool) -> String {
     let width = if is_aligned { 9 } else { 0 };
     let numbers: String = numbers.iter().map(|number| format!(" {number:>width$}")).collect();
-    format!("{first}{numbers}\n")
+    let room = if is_aligned { 5 } else { 0 };
+    format!("{first:<room$}{numbers}\n")
 }
 
 pub fn show(table: &Table, is_aligned: bool) -> String {

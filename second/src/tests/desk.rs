@@ -33,7 +33,7 @@ fn s_as_text() {
     let lines: Vec<&str> = aligned.lines().collect();
     assert_eq!(lines[0], "frame        20");
     assert_eq!(lines[1], "trans        20         1");
-    assert_eq!(lines[3], "task         4         0         0        10         8         3");
+    assert_eq!(lines[3], "task          4         0         0        10         8         3");
     // But for the blanks it is the same text.
     let single: Vec<String> = lines.iter().map(|line| line.split_whitespace().collect::<Vec<_>>().join(" ")).collect();
     assert_eq!(single.join("\n") + "\n", text);
