@@ -255,13 +255,10 @@ fn explain(words: Words, image: &[u8]) {
     let table = image::read(image).table;
     let mut cells = [0u32; sumpcandle::CELLS];
     match sumpcandle::cells(image, input::BUDGET, &mut cells) {
-        Filled::Refused(refusal, at) => output::end(
-            b"explain",
-            words,
-            image,
-            output::refused(true, image, refusal, at),
-            Verdict::Refused,
-        ),
+        Filled::Refused(refusal, at) => {
+            let whole = output::refused(true, image, refusal, at);
+            output::end(b"explain", words, image, whole, Verdict::Refused);
+        }
         Filled::Done(tasks) => accepted(words, image, &cells, &table.cells, tasks),
     }
 }

@@ -56,20 +56,13 @@ fn list(words: Words, image: &[u8]) {
     let mut cells = [0u32; sumpcandle::CELLS];
     let told = sumpcandle::cells(image, input::BUDGET, &mut cells);
     match told {
-        Filled::Done(tasks) => output::end(
-            b"listing",
-            words,
-            image,
-            lines(&cells, tasks),
-            found(&cells, tasks),
-        ),
-        Filled::Refused(_, _) => output::end(
-            b"listing",
-            words,
-            image,
-            refused(told),
-            Verdict::Refused,
-        ),
+        Filled::Done(tasks) => {
+            let whole = lines(&cells, tasks);
+            output::end(b"listing", words, image, whole, found(&cells, tasks));
+        }
+        Filled::Refused(_, _) => {
+            output::end(b"listing", words, image, refused(told), Verdict::Refused);
+        }
     }
 }
 

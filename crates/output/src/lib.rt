@@ -1,6 +1,5 @@
 // How a program begins, writes and ends: the words that it is started with, the image, an answer with every failed write noticed,
 // and a verdict. It knows the refusals and the fields of an image; it knows nothing of the analysis.
-mod page;
 mod refusing;
 mod words;
 
@@ -18,6 +17,7 @@ use words::Asked;
 pub use words::Words;
 use words::given;
 ghost use Rattle.io.specs.Counts.{Counts};
+ghost use Rattle.page.specs.Whole.{Keeps};
 
 // What the runner reads the verdict on: a program has no exit status.
 const VERDICT_FILENO: i32 = 3;
@@ -81,28 +81,44 @@ fn tell(verdict: Verdict) -> bool {
     }
 }
 
-// The end of a program: what went wrong, a hint at a text that was taken for an image, and the verdict where it is asked for and
-// the whole answer was written.
-pub fn end(name: &[u8], words: Words, image: &[u8], whole: bool, verdict: Verdict) {
-    if !whole {
-        failed(name, b": the answer cannot be written");
-        return;
+// A hint, where a text was taken for an image.
+fn hint(name: &[u8], image: &[u8]) {
+    let text = printable::is_text(image);
+    if text {
+        io::write_all(STDERR_FILENO, name);
+        io::write_all(
+            STDERR_FILENO,
+            b": this looks like text or a hex dump, and a table image is neither; a plain hex dump becomes one by xxd -r -p\n",
+        );
     }
-    if let Verdict::Refused = verdict {
-        let text = printable::is_text(image);
-        if text {
-            io::write_all(STDERR_FILENO, name);
-            io::write_all(
-                STDERR_FILENO,
-                b": this looks like text or a hex dump, and a table image is neither; a plain hex dump becomes one by xxd -r -p\n",
-            );
-        }
-    }
-    let asked = words.verdict;
+}
+
+// The verdict, where it is asked for, and whether it was written.
+fn tell_asked(name: &[u8], asked: bool, verdict: Verdict) -> bool
+    ensures { λ r. ⌜ Keeps asked r ⌝ }
+{
     if asked {
         let told = tell(verdict);
-        if !told {
-            failed(name, b": the verdict cannot be written");
+        if told {
+            return true;
         }
+        failed(name, b": the verdict cannot be written");
     }
+    false
+}
+
+// The end of a program: what went wrong, a hint at a text that was taken for an image, and the verdict where it is asked for and
+// the whole answer was written. Whether a verdict was given.
+pub fn end(name: &[u8], words: Words, image: &[u8], whole: bool, verdict: Verdict) -> bool
+    ensures whole { λ r. ⌜ Keeps whole r ⌝ }
+    ensures asked { λ r. ⌜ Keeps (words .verdict) r ⌝ }
+{
+    if whole {
+        if let Verdict::Refused = verdict {
+            hint(name, image);
+        }
+        return tell_asked(name, words.verdict, verdict);
+    }
+    failed(name, b": the answer cannot be written");
+    false
 }

@@ -1,8 +1,10 @@
 // A refusal in words: its number, its reason, and its place by byte, bit and field.
-use super::page::number;
-use super::page::say;
+use page::both;
+use page::number;
+use page::say;
 use places::Field;
 use refusals::Refusal;
+ghost use Rattle.page.specs.Whole.{Keeps};
 
 fn reason(whole: bool, refusal: Refusal) -> bool {
     match refusal {
@@ -29,11 +31,15 @@ fn reason(whole: bool, refusal: Refusal) -> bool {
 }
 
 // A text, and behind it a number.
-fn counted(whole: bool, text: &[u8], n: usize) -> bool {
+fn counted(whole: bool, text: &[u8], n: usize) -> bool
+    ensures { λ r. ⌜ Keeps whole r ⌝ }
+{
     number(say(whole, text), n as u64, 0)
 }
 
-fn of_task(whole: bool, text: &[u8], u: usize, k: usize) -> bool {
+fn of_task(whole: bool, text: &[u8], u: usize, k: usize) -> bool
+    ensures { λ r. ⌜ Keeps whole r ⌝ }
+{
     counted(counted(whole, text, k), b", transaction ", u)
 }
 
@@ -67,11 +73,15 @@ fn named(whole: bool, at: Field, refusal: Refusal) -> bool {
 }
 
 // The line for an image that is refused.
-pub fn refused(whole: bool, image: &[u8], refusal: Refusal, at: usize) -> bool {
+pub fn refused(whole: bool, image: &[u8], refusal: Refusal, at: usize) -> bool
+    ensures { λ r. ⌜ Keeps whole r ⌝ }
+{
     let whole = counted(whole, b"image refused (", refusal.number() as usize);
-    let whole = reason(say(whole, b"): "), refusal);
+    let whole = say(whole, b"): ");
+    let whole = both(whole, reason(whole, refusal));
     let whole = counted(whole, b", at byte ", at / 8);
     let whole = counted(whole, b", bit ", at % 8);
-    let whole = named(say(whole, b": "), places::field_at(image, at), refusal);
+    let whole = say(whole, b": ");
+    let whole = both(whole, named(whole, places::field_at(image, at), refusal));
     say(whole, b"\n")
 }

@@ -1,10 +1,10 @@
--- `output::page::spell` keeps within its text: digit i stands i places from the end, and one more for each comma behind it.
+-- `page::spell` keeps within its text: digit i stands i places from the end, and one more for each comma behind it.
 use Prim.Native.Nat.{ℕ, _+_, _-_, _/_, _≤_, _<_}
 use native.Mathlib.Nat.{div-lt-iff-lt-mul}
 use native.Mathlib.Omega.{arith}
 use borrow.Author.Needs.{needs}
-use Rattle.output.proofs.page.spell.Statement.{statement}
-use Rattle.output.proofs.page.spell.Tie as tie
+use Rattle.page.proofs.spell.Statement.{statement}
+use Rattle.page.proofs.spell.Tie as tie
 
 abbrev Inv-loop : tie.InvT-loop
 Inv-loop n group text₀ at₀ rest₀ i₀ text at rest i = (i ≤ 20) × (at < 26) × (20 ≤ at + i)
