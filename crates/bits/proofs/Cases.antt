@@ -3,7 +3,8 @@
 use mathlib.Core.Path.{_≡_, refl}
 use mathlib.Core.List.{List, [], _∷_}
 use Prim.Native.Nat.{ℕ, _^_}
-use Rattle.bits.specs.Bits.{bitAt, valueAt, fieldAt}
+use Rattle.bits.specs.Bits.{bitAt, valueAt, fieldBits, fieldAt}
+use Rattle.bits.specs.Put.{bitPut, bitsPut}
 use Rattle.bits.specs.declared.Field.the-variants.{Holds, Ends, NoWidth}
 use Rattle.bits.proofs.Fields.{numberOf}
 
@@ -46,3 +47,12 @@ too-wide = refl
 no-bits : fieldAt start 0 0 ≡ NoWidth
 unfolding fieldAt valueAt bitAt
 no-bits = refl
+
+most-significant-first : fieldBits 4 6 ≡ 0 ∷ 1 ∷ 1 ∷ 0 ∷ []
+unfolding fieldBits
+most-significant-first = refl
+
+-- three bits across a byte's edge: what stands before them stays, what stands behind them in their byte is cleared
+across : bitsPut (0xFF ∷ 0xFF ∷ 0xFF ∷ []) 6 (fieldBits 3 5) ≡ 0xFE ∷ 0x80 ∷ 0xFF ∷ []
+unfolding bitsPut bitPut fieldBits valueAt bitAt
+across = refl

@@ -1,5 +1,5 @@
 -- Fields of an image, a list of bytes: packed most significant bit first, with no gaps.
-use mathlib.Core.List.{List}
+use mathlib.Core.List.{List, [], _∷_, _++_}
 use mathlib.Core.Bool.{Bool, true, false, _&&_}
 use Prim.Native.Nat.{ℕ, zero, suc, _+_, _-_, _*_, _/_, _%_, _^_}
 use lib.ListN.{length, getD}
@@ -19,6 +19,11 @@ bitAt image p = getD image (p / 8) 0 / 2 ^ (7 - p % 8) % 2
 unfoldable pub valueAt : List ℕ → ℕ → ℕ → ℕ
 valueAt image p zero = 0
 valueAt image p (suc w) = 2 * valueAt image p w + bitAt image (p + w)
+
+-- the w lowest bits of v, the most significant first
+unfoldable pub fieldBits : ℕ → ℕ → List ℕ
+fieldBits zero v = []
+fieldBits (suc w) v = fieldBits w (v / 2) ++ (v % 2 ∷ [])
 
 -- the w bits from p lie in the image
 abbrev pub isInside : List ℕ → ℕ → ℕ → Bool

@@ -7,7 +7,7 @@ use native.Mathlib.Decide.{decLt}
 use native.Mathlib.Omega.{arith}
 use lib.ListN.{length, getD, List·getD-eq-default}
 use lib.Seq.{ext-getD}
-use Rattle.bits.specs.Bits.{bitAt, valueAt}
+use Rattle.bits.specs.Bits.{bitAt, valueAt, fieldBits}
 use Rattle.bits.proofs.Bytes.{zero-bits, byte-value}
 use Rattle.table.specs.Table.{Task, transaction, noTask}
 use Rattle.table.specs.Limits.{editionWidth, frameWidth, transactionsWidth, periodWidth, modesWidth, tasksWidth, offsetWidth, jitterWidth, blockingWidth, deadlineWidth, priorityWidth, timeWidth}
@@ -18,7 +18,7 @@ use Rattle.format.specs.Fault.{IsAccepted}
 use Rattle.table.proofs.Lists.{length-listOf, getD-listOf, joined-same}
 use Rattle.format.proofs.Said.{said-edition, said-frame, said-transactions, said-transaction}
 use Rattle.format.proofs.Accepted.{SoundHead, SoundTask, time-inside, header, head, task, end}
-use Rattle.format.specs.Image.{fieldBits, taskBits, transactionBits, tableBits, numberOf, bytesOf, imageOf}
+use Rattle.format.specs.Image.{taskBits, transactionBits, tableBits, numberOf, bytesOf, imageOf}
 use Rattle.format.proofs.Spans.{bitsFrom, Span, meet, field-to, from, joined-span}
 
 listed-joined {ℓ} :

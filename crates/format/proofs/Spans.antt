@@ -5,12 +5,11 @@ use mathlib.Core.List.{List, [], _∷_, _++_, append-nil, append-assoc}
 use Prim.Native.Nat.{ℕ, zero, suc, _+_, _*_, _/_, _%_, _<_}
 use native.Mathlib.Nat.{add-zero, add-suc, add-assoc}
 use native.Mathlib.Omega.{arith}
-use Rattle.bits.specs.Bits.{bitAt, valueAt}
+use Rattle.bits.specs.Bits.{bitAt, valueAt, fieldBits}
 use Rattle.bits.proofs.Fields.{bit-below}
 use Rattle.table.specs.Lists.{listOf, joined}
 use Rattle.table.proofs.Lists.{listOf-next}
 use Rattle.format.specs.ImageCases
-use Rattle.format.specs.Image.{fieldBits}
 
 -- the n bits from p
 unfoldable pub bitsFrom : List ℕ → ℕ → ℕ → List ℕ

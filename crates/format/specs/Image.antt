@@ -1,16 +1,12 @@
 -- The image of a table: its fields packed most significant bit first, with no gaps, and zero bits to the end of the byte.
-use mathlib.Core.List.{List, [], _∷_, _++_}
-use Prim.Native.Nat.{ℕ, zero, suc, _+_, _*_, _/_, _%_}
+use mathlib.Core.List.{List, _++_}
+use Prim.Native.Nat.{ℕ, zero, suc, _+_, _*_}
 use lib.ListN.{length, getD}
+use Rattle.bits.specs.Bits.{fieldBits}
 use Rattle.table.specs.Table.{Task, Transaction, Table, transactions, transaction, noTask}
 use Rattle.table.specs.Limits.{editionWidth, frameWidth, transactionsWidth, periodWidth, modesWidth, tasksWidth, offsetWidth, jitterWidth, blockingWidth, deadlineWidth, priorityWidth, timeWidth}
 use Rattle.table.specs.Lists.{listOf, joined}
 use Rattle.format.specs.Places.{bytesTo}
-
--- the w lowest bits of v
-unfoldable pub fieldBits : ℕ → ℕ → List ℕ
-fieldBits zero v = []
-fieldBits (suc w) v = fieldBits w (v / 2) ++ (v % 2 ∷ [])
 
 unfoldable pub taskBits : Task → List ℕ
 taskBits t =

@@ -2,10 +2,11 @@
 use mathlib.Core.Path.{_≡_, refl}
 use mathlib.Core.List.{[], _∷_, _++_}
 use lib.ListN.{replicate}
+use Rattle.bits.specs.Bits.{fieldBits}
 use Rattle.table.specs.Table.{Table, transactions, transaction}
 use Rattle.table.specs.Sample.{plain, S, lone}
 use Rattle.table.specs.Lists.{listOf, joined}
-use Rattle.format.specs.Image.{fieldBits, taskBits, transactionBits, tableBits, numberOf, bytesOf, imageOf}
+use Rattle.format.specs.Image.{taskBits, transactionBits, tableBits, numberOf, bytesOf, imageOf}
 
 last-image :
     imageOf (lone 10 (plain 0 3 5 10))

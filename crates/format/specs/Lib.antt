@@ -2,6 +2,8 @@ pub mod Places
 pub mod Said
 pub mod Fault
 pub mod Image
+pub mod Write
 pub mod Computing
 pub mod Cases
 pub mod ImageCases
+pub mod WriteCases

@@ -27,6 +27,8 @@ fn reason(whole: bool, refusal: Refusal) -> bool {
         Refusal::BytesFollow => say(whole, b"bytes follow the table"),
         Refusal::NoRoom => say(whole, b"too few cells for the answers"),
         Refusal::NoTask => say(whole, b"no task of that number"),
+        Refusal::TooLarge => say(whole, b"a number too large for its field"),
+        Refusal::BufferShort => say(whole, b"the buffer is too short"),
     }
 }
 

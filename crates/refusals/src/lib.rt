@@ -3,7 +3,7 @@
 ghost use mathlib.Core.Path.{_≡_};
 ghost use Rattle.refusals.specs.Answer.{refusalNumber, answerNumber, answerPlace, isAccepted, _then_, checked};
 
-// Why an image or a call is refused, in the order of document 01's numbers.
+// Why an image, a table or a call is refused, in the order of the documents' numbers.
 pub enum Refusal {
     EndsInside,
     EditionUnknown,
@@ -18,6 +18,8 @@ pub enum Refusal {
     BytesFollow,
     NoRoom,
     NoTask,
+    TooLarge,
+    BufferShort,
 }
 
 pub enum Answer {
@@ -43,6 +45,8 @@ impl Refusal {
             Refusal::BytesFollow => 11,
             Refusal::NoRoom => 12,
             Refusal::NoTask => 13,
+            Refusal::TooLarge => 29,
+            Refusal::BufferShort => 30,
         }
     }
 }

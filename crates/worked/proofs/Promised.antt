@@ -10,7 +10,8 @@ use Rattle.table.specs.Kept.{Kept}
 use Rattle.refusals.specs.declared.Answer.the-variants.{Accepted}
 use Rattle.format.specs.Said.{tableIn}
 use Rattle.format.specs.Fault.{imageFault}
-use Rattle.format.specs.Image.{fieldBits, taskBits, transactionBits, tableBits, numberOf, bytesOf, imageOf}
+use Rattle.bits.specs.Bits.{fieldBits}
+use Rattle.format.specs.Image.{taskBits, transactionBits, tableBits, numberOf, bytesOf, imageOf}
 use Rattle.format.specs.Computing as reading
 use Rattle.format.proofs.Kept.{kept}
 use Rattle.periods.specs.Charge.{imposed}
