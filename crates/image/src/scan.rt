@@ -9,15 +9,12 @@ use row::Table;
 use row::Task;
 use row::Transaction;
 ghost use mathlib.Core.Path.{_≡_};
-ghost use mathlib.Core.Bool.{_&&_};
-ghost use Prim.Native.Nat.{_+_, _*_, _^_, _<_, _≤_};
-ghost use lib.Dec.{leb};
+ghost use Prim.Native.Nat.{_+_, _*_, _^_, _<_};
 ghost use Rattle.table.specs.Sum.{sum};
-ghost use Rattle.table.specs.Limits.{timeWidth, tasksMost, tasksInAll};
+ghost use Rattle.table.specs.Limits.{timeWidth};
 ghost use Rattle.refusals.specs.Answer.{firstOf};
 ghost use Rattle.bits.specs.Bits.{valueAt};
 ghost use Rattle.format.specs.Places.{taskWidth, past};
-ghost use Rattle.table.specs.Rules.{isBetween, isDivisor};
 ghost use Rattle.format.specs.Fault.{endsAt, headerFault, taskFault, headFault, transactionFault, endFault, bodyFault, imageFault};
 
 // The image ends inside a field.
@@ -27,56 +24,17 @@ fn ends(image: &[u8], at: usize, width: usize) -> Answer
     check(bits::inside(image, at, width), Refusal::EndsInside, at)
 }
 
-fn between(least: usize, most: usize, n: usize) -> bool
-    ensures { λ r. ⌜ r ≡ isBetween least most n ⌝ }
-{
-    if n < least {
-        return false;
-    }
-    n <= most
-}
-
-fn divides(frame: u32, period: u32) -> bool
-    ensures { λ r. ⌜ r ≡ isDivisor frame period ⌝ }
-{
-    if period < 1 {
-        return false;
-    }
-    frame % period == 0
-}
-
-// A task count is in range, and the sum so far with it.
-fn few_tasks(before: usize, tasks: usize) -> bool
-    requires { ⌜ before < 2 ^ 32 ⌝ }
-    requires { ⌜ tasks < 2 ^ 32 ⌝ }
-    ensures { λ r. ⌜ r ≡ (isBetween 1 tasksMost tasks && leb (before + tasks) tasksInAll) ⌝ }
-{
-    let some = between(1, Transaction::TASKS, tasks);
-    if some {
-        return before + tasks <= Table::TASKS;
-    }
-    false
-}
-
 fn header(image: &[u8]) -> Answer
     ensures { λ r. ⌜ r ≡ headerFault (now (image .entry)) ⌝ }
 {
     let edition = bits::value(image, 0, Table::EDITION_WIDTH);
     let frame = bits::value(image, Table::FRAME_AT, Table::FRAME_WIDTH);
     let count = bits::value(image, Table::COUNT_AT, Table::TRANSACTIONS_WIDTH) as usize;
-    ends(image, 0, Table::EDITION_WIDTH).then(check(
-            edition == Table::EDITION,
-            Refusal::EditionUnknown,
-            0,
-        ))
+    ends(image, 0, Table::EDITION_WIDTH).then(rules::edition(edition, 0))
         .then(ends(image, Table::FRAME_AT, Table::FRAME_WIDTH))
-        .then(check(1 <= frame, Refusal::FrameZero, Table::FRAME_AT))
+        .then(rules::frame(frame, Table::FRAME_AT))
         .then(ends(image, Table::COUNT_AT, Table::TRANSACTIONS_WIDTH))
-        .then(check(
-            between(1, Table::TRANSACTIONS, count),
-            Refusal::TransactionCount,
-            Table::COUNT_AT,
-        ))
+        .then(rules::transactions(count, Table::COUNT_AT))
 }
 
 // The image ends inside one of the times that start at a bit position, one for each mode.
@@ -120,17 +78,14 @@ fn task(image: &[u8], modes: usize, at: usize) -> Answer
     let priority = at + Task::PRIORITY_AT;
     let times = at + Task::TIMES_AT;
     let held = body_at(image, at);
+    let all = times_sum(image, modes, times) as u64;
     ends(image, at, Task::OFFSET_WIDTH).then(ends(image, jitter, Task::JITTER_WIDTH))
         .then(ends(image, blocking, Task::BLOCKING_WIDTH))
         .then(ends(image, deadline, Task::DEADLINE_WIDTH))
-        .then(check(1 <= held.deadline, Refusal::DeadlineZero, deadline))
+        .then(rules::deadline(held.deadline, deadline))
         .then(ends(image, priority, Task::PRIORITY_WIDTH))
         .then(times_end(image, modes, times))
-        .then(check(
-            1 <= times_sum(image, modes, times),
-            Refusal::NeverRuns,
-            times,
-        ))
+        .then(rules::times(all, times))
 }
 
 fn tasks(image: &[u8], modes: usize, count: usize, at: usize) -> Answer
@@ -164,19 +119,11 @@ fn head(image: &[u8], before: usize, at: usize) -> Answer
     let tasks = at + Transaction::TASKS_AT;
     let frame = bits::value(image, Table::FRAME_AT, Table::FRAME_WIDTH);
     let held = head_at(image, at);
-    ends(image, at, Transaction::PERIOD_WIDTH).then(check(
-            divides(frame, held.period),
-            Refusal::PeriodUnfit,
-            at,
-        ))
+    ends(image, at, Transaction::PERIOD_WIDTH).then(rules::period(frame, held.period, at))
         .then(ends(image, modes, Transaction::MODES_WIDTH))
-        .then(check(
-            between(1, Transaction::MODES, held.modes),
-            Refusal::ModeCount,
-            modes,
-        ))
+        .then(rules::modes(held.modes, modes))
         .then(ends(image, tasks, Transaction::TASKS_WIDTH))
-        .then(check(few_tasks(before, held.tasks), Refusal::TaskCount, tasks))
+        .then(rules::tasks(before, held.tasks, tasks))
 }
 
 fn transaction(image: &[u8], before: usize, at: usize) -> Answer

@@ -20,8 +20,8 @@ cast-count c = search needs
 ends-requires : tie.Need-ends-requires
 ends-requires c κs = tt
 
-check-requires : tie.Need-check-requires
-check-requires c κs = tt
+edition-requires : tie.Need-edition-requires
+edition-requires c κs = tt
 
 then-requires : tie.Need-then-requires
 then-requires c κs = tt
@@ -32,8 +32,8 @@ ends-requires-2 c κs = tt
 then-requires-2 : tie.Need-then-requires-2
 then-requires-2 c κs = tt
 
-check-requires-2 : tie.Need-check-requires-2
-check-requires-2 c κs = tt
+frame-requires : tie.Need-frame-requires
+frame-requires c κs = tt
 
 then-requires-3 : tie.Need-then-requires-3
 then-requires-3 c κs = tt
@@ -44,11 +44,8 @@ ends-requires-3 c κs = tt
 then-requires-4 : tie.Need-then-requires-4
 then-requires-4 c κs = tt
 
-between-requires : tie.Need-between-requires
-between-requires c κs = tt
-
-check-requires-3 : tie.Need-check-requires-3
-check-requires-3 c κs = tt
+transactions-requires : tie.Need-transactions-requires
+transactions-requires c κs = tt
 
 then-requires-5 : tie.Need-then-requires-5
 then-requires-5 c κs = tt
@@ -56,7 +53,7 @@ then-requires-5 c κs = tt
 returns : tie.Need-returns
 unfolding headerRules
 returns c =
-    rw (c .then5 .ensures, c .before .check3 .ensures, c .before .before .between .ensures, c .before .before .before .then4 .ensures, c .before .before .before .before .ends3 .ensures, c .before .before .before .before .before .then3 .ensures, c .before .before .before .before .before .before .check2 .ensures, c .before .before .before .before .before .before .before .then2 .ensures, c .before .before .before .before .before .before .before .before .ends2 .ensures, c .before .before .before .before .before .before .before .before .before .then .ensures, c .before .before .before .before .before .before .before .before .before .before .check .ensures, c .before .before .before .before .before .before .before .before .before .before .before .ends .ensures, c .before .before .before .before .before .before .before .before .before .before .before .before .value3 .ensures, c .before .before .before .before .before .before .before .before .before .before .before .before .before .value2 .ensures, c .before .before .before .before .before .before .before .before .before .before .before .before .before .before .value .ensures)
+    rw (c .then5 .ensures, c .before .transactions .ensures, c .before .before .then4 .ensures, c .before .before .before .ends3 .ensures, c .before .before .before .before .then3 .ensures, c .before .before .before .before .before .frame .ensures, c .before .before .before .before .before .before .then2 .ensures, c .before .before .before .before .before .before .before .ends2 .ensures, c .before .before .before .before .before .before .before .before .then .ensures, c .before .before .before .before .before .before .before .before .before .edition .ensures, c .before .before .before .before .before .before .before .before .before .before .ends .ensures, c .before .before .before .before .before .before .before .before .before .before .before .value3 .ensures, c .before .before .before .before .before .before .before .before .before .before .before .before .value2 .ensures, c .before .before .before .before .before .before .before .before .before .before .before .before .before .value .ensures)
     (three-rules _ _ _ _ _ _)
 
 pub header-spec : {M : Type 1} → statement M
@@ -68,15 +65,14 @@ header-spec =
     value-requires-3
     cast-count
     ends-requires
-    check-requires
+    edition-requires
     then-requires
     ends-requires-2
     then-requires-2
-    check-requires-2
+    frame-requires
     then-requires-3
     ends-requires-3
     then-requires-4
-    between-requires
-    check-requires-3
+    transactions-requires
     then-requires-5
     returns)

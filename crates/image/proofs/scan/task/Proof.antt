@@ -1,6 +1,5 @@
 -- `scan::task` meets its contract: one chain of checks, rewritten by what each call ensures, the last first.
 use native.Mathlib.Nat.{add-zero}
-use native.Mathlib.Omega.{arith}
 use Rattle.table.specs.Rules.{taskRules}
 use Rattle.refusals.specs.Answer.{firstOf}
 use Rattle.refusals.proofs.Findings.{one-rule}
@@ -26,6 +25,12 @@ add-times c = search needs
 body-at-requires : tie.Need-body-at-requires
 body-at-requires c κs = search needs
 
+times-sum-requires : tie.Need-times-sum-requires
+times-sum-requires c κs = search needs
+
+cast-all : tie.Need-cast-all
+cast-all c = search needs
+
 ends-requires : tie.Need-ends-requires
 ends-requires c κs = tt
 
@@ -47,8 +52,8 @@ ends-requires-4 c κs = tt
 then-requires-3 : tie.Need-then-requires-3
 then-requires-3 c κs = tt
 
-check-requires : tie.Need-check-requires
-check-requires c κs = tt
+deadline-requires : tie.Need-deadline-requires
+deadline-requires c κs = tt
 
 then-requires-4 : tie.Need-then-requires-4
 then-requires-4 c κs = tt
@@ -60,16 +65,13 @@ then-requires-5 : tie.Need-then-requires-5
 then-requires-5 c κs = tt
 
 times-end-requires : tie.Need-times-end-requires
-times-end-requires c κs = omega (arith, c .before .before .before .before .before .before .before .before .before .before .before .before .before .before .pre)
+times-end-requires c κs = search needs
 
 then-requires-6 : tie.Need-then-requires-6
 then-requires-6 c κs = tt
 
-times-sum-requires : tie.Need-times-sum-requires
-times-sum-requires c κs = omega (arith, c .before .before .before .before .before .before .before .before .before .before .before .before .before .before .before .before .pre)
-
-check-requires-2 : tie.Need-check-requires-2
-check-requires-2 c κs = tt
+times-requires : tie.Need-times-requires
+times-requires c κs = tt
 
 then-requires-7 : tie.Need-then-requires-7
 then-requires-7 c κs = tt
@@ -77,7 +79,7 @@ then-requires-7 c κs = tt
 returns : tie.Need-returns
 unfolding taskRules firstOf
 returns c =
-    rw (c .then7 .ensures, c .before .check2 .ensures, c .before .before .times-sum .ensures, c .before .before .before .then6 .ensures, c .before .before .before .before .times-end .ensures, c .before .before .before .before .before .then5 .ensures, c .before .before .before .before .before .before .ends5 .ensures, c .before .before .before .before .before .before .before .then4 .ensures, c .before .before .before .before .before .before .before .before .check .ensures, c .before .before .before .before .before .before .before .before .before .before .then3 .ensures, c .before .before .before .before .before .before .before .before .before .before .before .ends4 .ensures, c .before .before .before .before .before .before .before .before .before .before .before .before .then2 .ensures, c .before .before .before .before .before .before .before .before .before .before .before .before .before .ends3 .ensures, c .before .before .before .before .before .before .before .before .before .before .before .before .before .before .then .ensures, c .before .before .before .before .before .before .before .before .before .before .before .before .before .before .before .ends2 .ensures, c .before .before .before .before .before .before .before .before .before .before .before .before .before .before .before .before .ends .ensures, c .before .before .before .before .before .before .before .before .before .before .before .before .before .before .before .before .before .body-at .ensures, add-zero)
+    rw (c .then7 .ensures, c .before .times .ensures, c .before .before .then6 .ensures, c .before .before .before .times-end .ensures, c .before .before .before .before .then5 .ensures, c .before .before .before .before .before .ends5 .ensures, c .before .before .before .before .before .before .then4 .ensures, c .before .before .before .before .before .before .before .deadline .ensures, c .before .before .before .before .before .before .before .before .then3 .ensures, c .before .before .before .before .before .before .before .before .before .ends4 .ensures, c .before .before .before .before .before .before .before .before .before .before .then2 .ensures, c .before .before .before .before .before .before .before .before .before .before .before .ends3 .ensures, c .before .before .before .before .before .before .before .before .before .before .before .before .then .ensures, c .before .before .before .before .before .before .before .before .before .before .before .before .before .ends2 .ensures, c .before .before .before .before .before .before .before .before .before .before .before .before .before .before .ends .ensures, c .before .before .before .before .before .before .before .before .before .before .before .before .before .before .before .times-sum .ensures, c .before .before .before .before .before .before .before .before .before .before .before .before .before .before .before .before .body-at .ensures, add-zero)
     (one-rule _ _ _ _ _ _)
 
 pub task-spec : {M : Type 1} → statement M
@@ -90,6 +92,8 @@ task-spec =
     add-priority
     add-times
     body-at-requires
+    times-sum-requires
+    cast-all
     ends-requires
     ends-requires-2
     then-requires
@@ -97,13 +101,12 @@ task-spec =
     then-requires-2
     ends-requires-4
     then-requires-3
-    check-requires
+    deadline-requires
     then-requires-4
     ends-requires-5
     then-requires-5
     times-end-requires
     then-requires-6
-    times-sum-requires
-    check-requires-2
+    times-requires
     then-requires-7
     returns)
