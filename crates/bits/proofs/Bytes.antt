@@ -27,7 +27,7 @@ bit-of image i k h =
     rw (byte, place)
 
 -- the first k bits of byte i
-prefix : (image : List ℕ) (i k : ℕ) → getD image i 0 < 256 → k ≤ 8 → valueAt image (8 * i) k ≡ getD image i 0 / 2 ^ (8 - k)
+pub prefix : (image : List ℕ) (i k : ℕ) → getD image i 0 < 256 → k ≤ 8 → valueAt image (8 * i) k ≡ getD image i 0 / 2 ^ (8 - k)
 unfolding valueAt
 prefix image i zero h within = sym (div-eq-of-lt h)
 prefix image i (suc k) h within =
