@@ -39,15 +39,15 @@ field-split a (suc c) v =
     let down : v / 2 / 2 ^ c ≡ v / 2 ^ suc c = shr-shr v 1 c ∙ ap (λ (k : ℕ). v / 2 ^ k) (one-add c) in
     rw (add-suc, fieldBits, field-split a c (v / 2), append-assoc, down)
 
--- of a field that has rest bits to come, the next t
+-- of a field that has rest bits to come, the next t, put at the place q where those before them end
 pub put-next :
-    (bytes : List ℕ) (p done t rest v : ℕ) → t ≤ rest
-    → bitsPut (bitsPut bytes p (fieldBits done (v / 2 ^ rest))) (p + done) (fieldBits t (v / 2 ^ (rest - t))) ≡ bitsPut bytes p (fieldBits (done + t) (v / 2 ^ (rest - t)))
-put-next bytes p done t rest v within =
+    (bytes : List ℕ) (p done t rest v : ℕ) {q : ℕ} → q ≡ p + done → t ≤ rest
+    → bitsPut (bitsPut bytes p (fieldBits done (v / 2 ^ rest))) q (fieldBits t (v / 2 ^ (rest - t))) ≡ bitsPut bytes p (fieldBits (done + t) (v / 2 ^ (rest - t)))
+put-next bytes p done t rest v place within =
     let whole : rest ≡ rest - t + t = omega arith in
     let x : ℕ = v / 2 ^ (rest - t) in
     let above : v / 2 ^ rest ≡ x / 2 ^ t = ap (λ (k : ℕ). v / 2 ^ k) whole ∙ sym (shr-shr v (rest - t) t) in
-    rw (above, field-split done t x, put-append bytes p (fieldBits done (x / 2 ^ t)) (fieldBits t x), length-field)
+    rw (place, above, field-split done t x, put-append bytes p (fieldBits done (x / 2 ^ t)) (fieldBits t x), length-field)
 
 -- what a byte holds is of no account once it is stored anew
 store-over : (bytes : List ℕ) (i from : ℕ) (l : List ℕ) (x : ℕ) → from + length l ≤ 8 → set (bitsPut bytes (8 * i + from) l) i x ≡ set bytes i x

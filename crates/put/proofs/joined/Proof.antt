@@ -22,15 +22,16 @@ bits-below byte from take value small within =
 bits-small : (c : tie.After-power) → c .before .wide .result / 2 ^ (8 - c .before .before .args .from) * c .power .result + c .before .before .args .value % c .power .result < 256
 bits-small c =
     let a = c .before .before .args in
-    rw (c .before .wide .ensures, c .power .ensures) (lt-of-lt-of-le (bits-below (a .byte) (a .from) (a .take) (a .value) (omega arith) (omega arith)) (pow-mono {j = 8} (omega arith)))
+    rw (c .power .ensures)
+    (lt-of-lt-of-le (bits-below (c .before .wide .result) (a .from) (a .take) (a .value) (omega arith) (omega arith)) (pow-mono {j = 8} (omega arith)))
 
 byte-small :
     (c : tie.After-power2)
     → (c .before .before .wide .result / 2 ^ (8 - c .before .before .before .args .from) * c .before .power .result + c .before .before .before .args .value % c .before .power .result) * c .power2 .result < 256
 byte-small c =
     let a = c .before .before .before .args in
-    rw (c .before .before .wide .ensures, c .before .power .ensures, c .power2 .ensures)
-    (head-below _ (a .from + a .take) (bits-below (a .byte) (a .from) (a .take) (a .value) (omega arith) (omega arith)) (omega arith))
+    rw (c .before .power .ensures, c .power2 .ensures)
+    (head-below _ (a .from + a .take) (bits-below (c .before .before .wide .result) (a .from) (a .take) (a .value) (omega arith) (omega arith)) (omega arith))
 
 wide-requires : tie.Need-wide-requires
 wide-requires c κs = search needs

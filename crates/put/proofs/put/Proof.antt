@@ -18,9 +18,6 @@ Inv-loop buffer₀ at width value first from end done₀ buffer done = (done ≤
 abbrev μ-loop : tie.MeasureT-loop
 μ-loop buffer₀ at width value first from end done₀ buffer done = end - done
 
-place : (at done : ℕ) → 8 * (at / 8 + (at % 8 + done) / 8) + (at % 8 + done) % 8 ≡ at + done
-place at done = omega arith
-
 least-requires : tie.Need-least-requires Inv-loop μ-loop
 least-requires c κs = search needs
 
@@ -75,8 +72,8 @@ loop-again c =
     let take = turn .least2 .result in
     let left : end - (done + take) ≡ end - done - take = omega arith in (
       omega (arith, turn .least2 .ensures),
-      rw (called .put-chunk .ensures, at-loop .loop .inv .1, place (a .at) done, left)
-          (put-next (now (a .buffer)) (a .at) done take (end - done) (a .value) (omega (arith, turn .least2 .ensures))),
+      rw (called .put-chunk .ensures, at-loop .loop .inv .1, left)
+          (put-next (now (a .buffer)) (a .at) done take (end - done) (a .value) (omega arith) (omega (arith, turn .least2 .ensures))),
     )
 
 same-length : tie.Need-same-length Inv-loop μ-loop
