@@ -46,13 +46,13 @@ module _ (image : List ℕ) where
       let below : m < modesIn image p = rw (said-modes image u (owner (has .0))) at (has .1) in
       sym (getD-listOf (modesIn image p) (timeIn image q) m 0 below) ∙ ap (λ (t : Task). getD (t .times) m 0) (task-read (has .0))
 
-  reads : Reads (imageLook image) (tableIn image)
+  pub reads : Reads (imageLook image) (tableIn image)
   reads = record { number = number-read }
 
-  fits : Fits (tableIn image)
+  pub fits : Fits (tableIn image)
   fits = record { below = λ f has. rw (← number-read f has) (value-below image _ (width f)) }
 
-  timed : Timed (tableIn image)
+  pub timed : Timed (tableIn image)
   unfolding taskIn
   timed =
       record {

@@ -91,12 +91,12 @@ module _ (image : List ℕ) where
 
 -- ---- bits as bytes
 
-number-same : (f g : ℕ → ℕ) (w : ℕ) → ((k : ℕ) → k < w → f k ≡ g k) → numberOf f w ≡ numberOf g w
+pub number-same : (f g : ℕ → ℕ) (w : ℕ) → ((k : ℕ) → k < w → f k ≡ g k) → numberOf f w ≡ numberOf g w
 unfolding numberOf
 number-same f g zero same = refl
 number-same f g (suc w) same = rw (number-same f g w (λ k h. same k (omega arith)), same w (omega arith))
 
-value-number : (image : List ℕ) (p w : ℕ) → valueAt image p w ≡ numberOf (λ k. bitAt image (p + k)) w
+pub value-number : (image : List ℕ) (p w : ℕ) → valueAt image p w ≡ numberOf (λ k. bitAt image (p + k)) w
 unfolding numberOf valueAt
 value-number image p zero = refl
 value-number image p (suc w) = rw (value-number image p w)

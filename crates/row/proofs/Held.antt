@@ -45,7 +45,7 @@ module _ (row : List ℕ) where
   -- ---- task j of transaction u
 
   module _ {u j : ℕ} (t : IsTask (tableOf row) u j) where
-    task-there : task (tableOf row) u j ≡ taskOf row (modes (tableOf row) u) (number (tableOf row) u j)
+    pub task-there : task (tableOf row) u j ≡ taskOf row (modes (tableOf row) u) (number (tableOf row) u j)
     unfolding task transactionOf number
     task-there =
         let within : j < getD row (transactionCell u + hasCell) 0 = rw (held-tasks (t .owner)) at (t .place) in

@@ -27,7 +27,7 @@ unfolding ofTask
 length-task u t = rw (length-listOf)
 
 -- a list is its elements, by their index
-listed {ℓ} : {A : Type ℓ} (n : ℕ) (f : ℕ → A) (l : List A) (d : A) → n ≡ length l → ((k : ℕ) → k < n → f k ≡ getD l k d) → listOf n f ≡ l
+pub listed {ℓ} : {A : Type ℓ} (n : ℕ) (f : ℕ → A) (l : List A) (d : A) → n ≡ length l → ((k : ℕ) → k < n → f k ≡ getD l k d) → listOf n f ≡ l
 listed n f l d long each =
     ext-getD d (listOf n f) l (length-listOf n f ∙ long)
     (λ k h.
