@@ -1,2 +1,4 @@
 pub mod Bits
 pub mod Laid
+pub mod Places
+pub mod Row
