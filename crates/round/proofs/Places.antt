@@ -25,10 +25,10 @@ length-field (suc w) v = rw (length-append, length-field w, add-one w)
 -- ---- a task
 
 module _ (t : Task) where
-  abbrev timeBits : ℕ → List ℕ
+  abbrev pub timeBits : ℕ → List ℕ
   timeBits m = fieldBits timeWidth (getD (t .times) m 0)
 
-  length-times : (m : ℕ) → length (joined m timeBits) ≡ m * timeWidth
+  pub length-times : (m : ℕ) → length (joined m timeBits) ≡ m * timeWidth
   length-times m = length-joined m timeWidth timeBits (λ k h. length-field timeWidth _)
 
   length-task : length (taskBits t) ≡ taskWidth (length (t .times))
@@ -39,7 +39,7 @@ module _ (t : Task) where
 
 module _ (tab : Table) (timed : Timed tab) where
   module _ (u : ℕ) (h : u < transactions tab) where
-    length-tasks : (j : ℕ) → j ≤ tasks tab u → length (joined j (λ i. taskBits (task tab u i))) ≡ j * taskWidth (modes tab u)
+    pub length-tasks : (j : ℕ) → j ≤ tasks tab u → length (joined j (λ i. taskBits (task tab u i))) ≡ j * taskWidth (modes tab u)
     length-tasks j few =
         length-joined j (taskWidth (modes tab u)) _
         (λ i below. length-task (task tab u i) ∙ ap taskWidth (timed .times u i (record { owner = h; place = omega arith })))
@@ -49,7 +49,7 @@ module _ (tab : Table) (timed : Timed tab) where
     length-transaction = simp (length-append, length-field, length-tasks (tasks tab u) (omega arith))
 
   -- the transactions, from where the first one starts
-  length-front : (u : ℕ) → u ≤ transactions tab → firstAt + length (joined u (λ v. transactionBits (transaction tab v))) ≡ startOf tab u
+  pub length-front : (u : ℕ) → u ≤ transactions tab → firstAt + length (joined u (λ v. transactionBits (transaction tab v))) ≡ startOf tab u
   unfolding joined startOf
   length-front zero h = refl
   length-front (suc u) h =
