@@ -1,12 +1,12 @@
 -- Bits and the bytes that hold them: a byte's bits are those that it was made of.
 use mathlib.Core.Path.{_≡_, sym, ap, _∙_}
-use mathlib.Core.List.{List, [], _∷_, _++_}
+use mathlib.Core.List.{List, [], _∷_, _++_, append-nil}
 use Prim.Native.Nat.{ℕ, zero, suc, _+_, _-_, _*_, _/_, _%_, _^_, _≤_, _<_}
-use native.Mathlib.Nat.{add-zero, add-suc, div-one, mul-one, pow-suc, mul-assoc}
+use native.Mathlib.Nat.{zero-add, zero-mul, add-zero, add-suc, div-one, mul-one, pow-suc, mul-assoc}
 use native.Mathlib.Decide.{decLt}
 use native.Mathlib.Omega.{arith}
 use lib.Pow.{shr-shr}
-use lib.ListN.{length, getD, List·getD-append}
+use lib.ListN.{length, getD, List·getD-append, List·getD-eq-default}
 use lib.Seq.{getD-append-add}
 use Rattle.bits.specs.Bits.{bitAt, valueAt, fieldBits}
 use Rattle.table.specs.Table.{Task, Transaction, Table}
@@ -59,8 +59,8 @@ module _ (l : List ℕ) where
   unfolding bytesOf
   byte-at i h = getD-listOf (bytesTo (length l)) (λ j. numberOf (λ k. getD l (8 * j + k) 0) 8) i 0 h
 
-  -- the bytes say the bits that they were made of, also where other bytes follow
-  pub bit-in : (rest : List ℕ) → AreBits l → (p : ℕ) → p < length l → bitAt (bytesOf l ++ rest) p ≡ getD l p 0
+  -- the bytes say the bits that they were made of and zeros behind them, also where other bytes follow
+  bit-in : (rest : List ℕ) → AreBits l → (p : ℕ) → p < 8 * bytesTo (length l) → bitAt (bytesOf l ++ rest) p ≡ getD l p 0
   unfolding bitAt
   bit-in rest bits p h =
       let i : ℕ = p / 8 in
@@ -69,13 +69,26 @@ module _ (l : List ℕ) where
       let here : 8 * i + k ≡ p = omega arith in
       let byte : getD (bytesOf l ++ rest) i 0 ≡ numberOf (λ j. getD l (8 * i + j) 0) 8 =
       List·getD-append (bytesOf l) rest 0 i (rw length-bytes within) ∙ byte-at i within in
-      rw byte (number-bit (λ j. getD l (8 * i + j) 0) (λ j. bits .below (8 * i + j)) k (omega arith)) ∙ ap (λ (j : ℕ). getD l j 0) here
+      rw byte (number-bit (λ j. getD l (8 * i + j) 0) (λ j. bits .below (8 * i + j)) k (omega arith))
+      ∙ ap (λ (j : ℕ). getD l j 0) here
 
   pub value-in :
-      (rest : List ℕ) → AreBits l → (p w : ℕ) → p + w ≤ length l → valueAt (bytesOf l ++ rest) p w ≡ numberOf (λ k. getD l (p + k) 0) w
+      (rest : List ℕ)
+      → AreBits l
+      → (p w : ℕ)
+      → p + w ≤ 8 * bytesTo (length l)
+      → valueAt (bytesOf l ++ rest) p w ≡ numberOf (λ k. getD l (p + k) 0) w
   value-in rest bits p w h =
       value-number (bytesOf l ++ rest) p w
       ∙ number-same _ _ w (λ k below. bit-in rest bits (p + k) (omega arith))
+
+  pub padding-in : AreBits l → valueAt (bytesOf l) (length l) (8 * bytesTo (length l) - length l) ≡ 0
+  unfolding numberOf
+  padding-in bits =
+      let w : ℕ = 8 * bytesTo (length l) - length l in
+      let f : ℕ → ℕ = λ k. getD l (length l + k) 0 in
+      let none : numberOf f (0 + w) ≡ 0 * 2 ^ w = number-zeros f 0 w (λ k h. List·getD-eq-default l 0 (omega arith)) in
+      (rw (append-nil (bytesOf l)) at (value-in [] bits (length l) w (omega arith))) ∙ (rw (zero-add w, zero-mul (2 ^ w)) at none)
 
 -- ---- which lists are bits
 

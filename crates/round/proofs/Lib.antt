@@ -4,3 +4,6 @@ pub mod Places
 pub mod Row
 pub mod Stands
 pub mod Back
+pub mod Alike
+pub mod Refused
+pub mod Accepted

@@ -1,7 +1,7 @@
 -- A list stands among bits at a position: so do its parts, and a field that does is read back as its number.
 use mathlib.Core.Path.{_≡_, ap, _∙_}
 use mathlib.Core.List.{List, [], _∷_, _++_, append-nil}
-use Prim.Native.Nat.{ℕ, zero, suc, _+_, _/_, _%_, _^_, _≤_, _<_}
+use Prim.Native.Nat.{ℕ, zero, suc, _+_, _*_, _/_, _%_, _^_, _≤_, _<_}
 use native.Mathlib.Nat.{zero-add, add-assoc, pow-suc}
 use native.Mathlib.Omega.{arith}
 use lib.ListN.{length, getD, length-append, List·getD-append}
@@ -9,6 +9,7 @@ use lib.Seq.{getD-append-add, getD-at}
 use Rattle.bits.specs.Bits.{valueAt, fieldBits}
 use Rattle.table.specs.Lists.{joined}
 use Rattle.table.proofs.Lists.{joined-grows, getD-joined}
+use Rattle.format.specs.Places.{bytesTo}
 use Rattle.format.specs.Image.{numberOf, bytesOf}
 use Rattle.format.proofs.Round.{number-same}
 use Rattle.round.proofs.Bits.{AreBits, value-in}
@@ -92,7 +93,7 @@ field-number (suc w) v h =
 
 pub field-back : (bits : List ℕ) → AreBits bits → (p w v : ℕ) → v < 2 ^ w → Stands bits p (fieldBits w v) → valueAt (bytesOf bits) p w ≡ v
 field-back bits are p w v fits s =
-    let inside : p + w ≤ length bits = omega (arith, s .inside, length-field w v) in
+    let inside : p + w ≤ 8 * bytesTo (length bits) = omega (arith, s .inside, length-field w v) in
     (rw (append-nil (bytesOf bits)) at (value-in bits [] are p w inside))
     ∙ number-same _ _ w (λ k below. s .each k (rw (length-field w v) below))
     ∙ field-number w v fits
