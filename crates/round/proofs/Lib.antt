@@ -7,3 +7,4 @@ pub mod Back
 pub mod Alike
 pub mod Refused
 pub mod Accepted
+pub mod Longest

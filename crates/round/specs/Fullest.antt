@@ -1,0 +1,14 @@
+-- A table as full as one may be: every transaction and every task that the limits allow, and every mode.
+use Prim.Native.Nat.{ℕ, _/_}
+use Rattle.table.specs.Table.{Task, Transaction, Table}
+use Rattle.table.specs.Limits.{editionKnown, transactionsMost, modesMost, tasksInAll}
+use Rattle.table.specs.Lists.{listOf}
+
+unfoldable pub fullestTask : Task
+fullestTask = record { offset = 0; jitter = 0; blocking = 0; deadline = 1; priority = 0; times = listOf modesMost (λ m. 1) }
+
+unfoldable pub fullestTransaction : Transaction
+fullestTransaction = record { period = 1; modes = modesMost; tasks = listOf (tasksInAll / transactionsMost) (λ j. fullestTask) }
+
+unfoldable pub fullest : Table
+fullest = record { edition = editionKnown; frame = 1; transactions = listOf transactionsMost (λ u. fullestTransaction) }
