@@ -2,12 +2,10 @@
 -- computed cases are brought in so that they are checked first.)
 use mathlib.Core.Path.{_≡_}
 use mathlib.Core.List.{List}
-use Prim.Native.Nat.{ℕ, zero, suc, _+_, _-_, _*_, _≤_, _<_}
-use native.Mathlib.Omega.{arith}
+use Prim.Native.Nat.{ℕ, _+_, _-_, _*_, _≤_, _<_}
 use lib.ListN.{length}
 use borrow.Author.Tests.{leb-true, eqb-true}
 use Rattle.bits.specs.Bits.{valueAt}
-use Rattle.table.specs.Sum.{sum}
 use Rattle.table.specs.Limits.{limits, tasksInAll, timeWidth}
 use Rattle.table.specs.Fields.{TaskField, widthInHeader, widthInHead, widthInTask}
 use Rattle.table.proofs.Rules as rules
@@ -16,6 +14,7 @@ use Rattle.refusals.proofs.Findings.{then-joins, none-first, none-second, held}
 use Rattle.format.specs.Cases
 use Rattle.format.specs.Places.{placeInHeader, placeInHead, placeInTask, timeAt, taskAt, start, bytesTo}
 use Rattle.format.specs.Said.{frameIn, countIn, modesIn, tasksIn, tasksBefore}
+use Rattle.format.proofs.Reached as reached
 use Rattle.format.specs.Fault.{lookAt, imageLook, headerFault, headFault, endFault, imageFault, IsAccepted}
 
 abbrev pub SoundHeader : List ℕ → Type 0
@@ -56,9 +55,8 @@ pub few-before :
     (image : List ℕ) (u : ℕ)
     → ((v : ℕ) → v < u → SoundHead image (tasksBefore image v) (start image v))
     → tasksBefore image u ≤ tasksInAll
-unfolding tasksBefore sum
-few-before image zero each = omega arith
-few-before image (suc u) each = each u (omega arith) .inAll
+unfolding tasksBefore
+few-before image u each = reached.few-before limits (imageLook image) u each
 
 module _ (image : List ℕ) (ok : IsAccepted image) where
   table : rules.SoundTable limits (imageLook image)

@@ -1,5 +1,6 @@
 pub mod Places
 pub mod Faults
+pub mod Reached
 pub mod Accepted
 pub mod Said
 pub mod Kept

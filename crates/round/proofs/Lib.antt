@@ -8,3 +8,4 @@ pub mod Alike
 pub mod Refused
 pub mod Accepted
 pub mod Longest
+pub mod Found
