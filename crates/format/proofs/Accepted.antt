@@ -14,8 +14,8 @@ use Rattle.refusals.proofs.Findings.{then-joins, none-first, none-second, held}
 use Rattle.format.specs.Cases
 use Rattle.format.specs.Places.{placeInHeader, placeInHead, placeInTask, timeAt, taskAt, start, bytesTo}
 use Rattle.format.specs.Said.{frameIn, countIn, modesIn, tasksIn, tasksBefore}
-use Rattle.format.proofs.Reached as reached
 use Rattle.format.specs.Fault.{lookAt, imageLook, headerFault, headFault, endFault, imageFault, IsAccepted}
+use Rattle.format.proofs.Reached as reached
 
 abbrev pub SoundHeader : List ℕ → Type 0
 SoundHeader image = rules.SoundHeader limits (lookAt image placeInHeader widthInHeader)

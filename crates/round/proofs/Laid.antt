@@ -8,11 +8,12 @@ use lib.ListN.{length, getD, drop, length-append, length-drop, length-set, List�
 use lib.Seq.{ext-getD, getD-append-add, getD-append-seam, getD-set-same, getD-set-other, getD-drop}
 use Rattle.bits.specs.Bits.{valueAt}
 use Rattle.bits.specs.Put.{bitPut, bitsPut}
+use Rattle.table.specs.Table.{Table}
 use Rattle.table.specs.Lists.{listOf}
 use Rattle.format.specs.Places.{bytesTo}
-use Rattle.format.specs.Image.{numberOf, bytesOf}
+use Rattle.format.specs.Image.{tableBits, numberOf, bytesOf, imageOf}
 use Rattle.format.proofs.Round.{number-same}
-use Rattle.round.proofs.Bits.{AreBits, number-zeros, length-bytes, byte-at, value-in, no-bits, bits-append, bit-alone}
+use Rattle.round.proofs.Bits.{AreBits, number-zeros, length-bytes, byte-at, value-in, no-bits, bits-append, bit-alone, table-bits, image-length}
 
 module _ (before : List ℕ) where
   -- the bytes once those bits are put
@@ -113,3 +114,9 @@ module _ (before : List ℕ) where
   pub laid : (l : List ℕ) → AreBits l → bytesTo (length l) ≤ length before → bitsPut before 0 l ≡ bytesOf l ++ drop (bytesTo (length l)) before
   unfolding bytesOf listOf
   laid l bits room = put-rest [] l no-bits bits (omega arith)
+
+  -- a table's bits make its image
+  pub image-laid : (tab : Table) → length (imageOf tab) ≤ length before → bitsPut before 0 (tableBits tab) ≡ imageOf tab ++ drop (length (imageOf tab)) before
+  unfolding imageOf
+  image-laid tab room =
+      rw (image-length tab) (laid (tableBits tab) (table-bits tab) (rw (image-length tab) at room))
