@@ -1,0 +1,200 @@
+// The first fault of the table that a row holds, front to back. Reading a cell is total, so each check reads its number whether the
+// row holds it or not. A count may be any number: what is counted is looked at only where the count was accepted, and all places
+// are small there.
+use refusals::Answer;
+use refusals::Refusal;
+use refusals::check;
+use row::Table;
+use row::Task;
+use row::Transaction;
+ghost use mathlib.Core.Path.{_≡_};
+ghost use Prim.Native.Nat.{_+_, _*_, _^_, _<_, _≤_};
+ghost use Rattle.table.specs.Sum.{sum};
+ghost use Rattle.table.specs.Limits.{timeWidth, transactionsMost, modesMost, tasksMost, tasksInAll};
+ghost use Rattle.table.specs.Table.{transactions};
+ghost use Rattle.refusals.specs.Answer.{firstOf};
+ghost use Rattle.row.specs.Row.{modesCell, hasCell, tableOf, headCell, timeCell};
+ghost use Rattle.format.specs.Places.{taskWidth, taskAt};
+ghost use Rattle.format.specs.Write.{tableFault};
+ghost use Rattle.writer.specs.Scan.{fitsAt, headerFault, taskFault, headFault, transactionFault, bodyFault};
+
+// A number is too large for a field of that width.
+fn fits(number: u32, width: usize, at: usize) -> Answer
+    requires { ⌜ width < 32 ⌝ }
+    ensures { λ r. ⌜ r ≡ fitsAt number width at ⌝ }
+{
+    check(number >> width == 0, Refusal::TooLarge, at)
+}
+
+fn header(row: &[u32]) -> Answer
+    ensures { λ r. ⌜ r ≡ headerFault (now (row .entry)) ⌝ }
+{
+    let edition = Table::edition(row);
+    let frame = Table::frame(row);
+    let count = Table::transactions(row);
+    fits(edition, Table::EDITION_WIDTH, 0).then(rules::edition(edition, 0))
+        .then(fits(frame, Table::FRAME_WIDTH, Table::FRAME_AT))
+        .then(rules::frame(frame, Table::FRAME_AT))
+        .then(fits(count, Table::TRANSACTIONS_WIDTH, Table::COUNT_AT))
+        .then(rules::transactions(count as usize, Table::COUNT_AT))
+}
+
+// One of the times of task k is too large, the first of which would start at a bit position.
+fn times_fit(row: &[u32], modes: usize, k: usize, at: usize) -> Answer
+    requires { ⌜ modes < 16 ⌝ }
+    requires { ⌜ at < 2 ^ 33 ⌝ }
+    ensures { λ r. ⌜ r ≡ firstOf modes (λ m. fitsAt (timeCell (now (row .entry)) k m) timeWidth (at + m * timeWidth)) ⌝ }
+{
+    let mut found = Answer::Accepted;
+    let mut m: usize = 0;
+    while m < modes {
+        let time = Table::time(row, k, m);
+        found = found.then(fits(time, Task::TIME_WIDTH, at + m * Task::TIME_WIDTH));
+        m += 1;
+    }
+    found
+}
+
+// The sum of the times of task k: 0 where the task never runs.
+fn times_sum(row: &[u32], modes: usize, k: usize) -> u64
+    requires { ⌜ modes < 16 ⌝ }
+    ensures { λ r. ⌜ r ≡ sum modes (λ m. timeCell (now (row .entry)) k m) ⌝ }
+{
+    let mut all: u64 = 0;
+    let mut m: usize = 0;
+    while m < modes {
+        all = all + Table::time(row, k, m) as u64;
+        m += 1;
+    }
+    all
+}
+
+// Task k, which would start at a bit position.
+fn task(row: &[u32], modes: usize, k: usize, at: usize) -> Answer
+    requires { ⌜ modes < 16 ⌝ }
+    requires { ⌜ at < 2 ^ 32 ⌝ }
+    ensures { λ r. ⌜ r ≡ taskFault (now (row .entry)) modes k at ⌝ }
+{
+    let deadline = at + Task::DEADLINE_AT;
+    let times = at + Task::TIMES_AT;
+    let due = Table::deadline(row, k);
+    fits(Table::offset(row, k), Task::OFFSET_WIDTH, at).then(fits(
+            Table::jitter(row, k),
+            Task::JITTER_WIDTH,
+            at + Task::JITTER_AT,
+        ))
+        .then(fits(
+            Table::blocking(row, k),
+            Task::BLOCKING_WIDTH,
+            at + Task::BLOCKING_AT,
+        ))
+        .then(fits(due, Task::DEADLINE_WIDTH, deadline))
+        .then(rules::deadline(due, deadline))
+        .then(fits(
+            Table::priority(row, k),
+            Task::PRIORITY_WIDTH,
+            at + Task::PRIORITY_AT,
+        ))
+        .then(times_fit(row, modes, k, times))
+        .then(rules::times(times_sum(row, modes, k), times))
+}
+
+// So many tasks from number `first`, the first of which would start at a bit position.
+fn tasks(row: &[u32], modes: usize, first: usize, count: usize, at: usize) -> Answer
+    requires { ⌜ modes < 16 ⌝ }
+    requires { ⌜ first < 2 ^ 32 ⌝ }
+    requires { ⌜ count < 32 ⌝ }
+    requires { ⌜ at < 2 ^ 31 ⌝ }
+    ensures { λ r. ⌜ r ≡ firstOf count (λ j. taskFault (now (row .entry)) modes (first + j) (at + j * taskWidth modes)) ⌝ }
+{
+    let size = Task::TIMES_AT + modes * Task::TIME_WIDTH;
+    let mut found = Answer::Accepted;
+    let mut j: usize = 0;
+    while j < count {
+        let sound = found.is_accepted();
+        if sound {
+            found = task(row, modes, first + j, at + j * size);
+        } else {
+            return found;
+        }
+        j += 1;
+    }
+    found
+}
+
+// The counts and the period of transaction u, where `before` tasks stand before it.
+fn head(row: &[u32], u: usize, before: usize, at: usize) -> Answer
+    requires { ⌜ at < 2 ^ 32 ⌝ }
+    ensures { λ r. ⌜ r ≡ headFault (now (row .entry)) u before at ⌝ }
+{
+    let modes_at = at + Transaction::MODES_AT;
+    let tasks_at = at + Transaction::TASKS_AT;
+    let frame = Table::frame(row);
+    let period = Table::period(row, u);
+    let modes = Table::modes(row, u);
+    let tasks = Table::tasks(row, u);
+    fits(period, Transaction::PERIOD_WIDTH, at).then(rules::period(frame, period, at))
+        .then(fits(modes, Transaction::MODES_WIDTH, modes_at))
+        .then(rules::modes(modes as usize, modes_at))
+        .then(fits(tasks, Transaction::TASKS_WIDTH, tasks_at))
+        .then(rules::tasks(before, tasks as usize, tasks_at))
+}
+
+fn transaction(row: &[u32], u: usize, before: usize, at: usize) -> Answer
+    requires { ⌜ before ≤ tasksInAll ⌝ }
+    requires { ⌜ at < 2 ^ 30 ⌝ }
+    ensures { λ r. ⌜ r ≡ transactionFault (now (row .entry)) u before at ⌝ }
+{
+    let found = head(row, u, before, at);
+    let sound = found.is_accepted();
+    if sound {
+        let modes = Table::modes(row, u) as usize;
+        let count = Table::tasks(row, u) as usize;
+        tasks(row, modes, before, count, at + Transaction::WIDTH)
+    } else {
+        found
+    }
+}
+
+// Where transaction u would end.
+fn end_of(row: &[u32], u: usize, at: usize) -> usize
+    requires { ⌜ headCell (now row) u modesCell ≤ modesMost ⌝ }
+    requires { ⌜ headCell (now row) u hasCell ≤ tasksMost ⌝ }
+    requires { ⌜ at < 2 ^ 32 ⌝ }
+    ensures { λ r. ⌜ r ≡ taskAt at (headCell (now (row .entry)) u modesCell) (headCell (now (row .entry)) u hasCell) ⌝ }
+{
+    let modes = Table::modes(row, u) as usize;
+    let tasks = Table::tasks(row, u) as usize;
+    at + Transaction::WIDTH + tasks * (Task::TIMES_AT + modes * Task::TIME_WIDTH)
+}
+
+// The transactions, where their count is accepted.
+fn transactions(row: &[u32]) -> Answer
+    requires { ⌜ transactions (tableOf (now row)) ≤ transactionsMost ⌝ }
+    ensures { λ r. ⌜ r ≡ bodyFault (now (row .entry)) ⌝ }
+{
+    let count = Table::transactions(row) as usize;
+    let mut before: usize = 0;
+    let mut at = Table::FIRST_AT;
+    let mut u: usize = 0;
+    while u < count {
+        let found = transaction(row, u, before, at);
+        let sound = found.is_accepted();
+        if sound {
+            before += Table::tasks(row, u) as usize;
+            at = end_of(row, u, at);
+        } else {
+            return found;
+        }
+        u += 1;
+    }
+    Answer::Accepted
+}
+
+pub(crate) fn first_fault(row: &[u32]) -> Answer
+    ensures { λ r. ⌜ r ≡ tableFault (tableOf (now (row .entry))) ⌝ }
+{
+    let found = header(row);
+    let sound = found.is_accepted();
+    if sound { transactions(row) } else { found }
+}
