@@ -11,11 +11,10 @@ use lib.Dec.{ltb, eqb}
 use lib.ListN.{getD}
 use lib.Pow.{pow-pos}
 use borrow.Author.Tests.{lt-ltb, le-ltb, eq-eqb, ne-eqb}
-use Rattle.table.specs.Sum.{sum}
 use Rattle.table.specs.Limits.{limits, transactionsMost, modesMost, tasksMost, tasksInAll}
-use Rattle.table.specs.Table.{Table, transactions, period, modes, tasks, IsTask}
+use Rattle.table.specs.Table.{Table, transactions, modes, tasks, IsTask}
 use Rattle.table.specs.Number.{before, number}
-use Rattle.table.specs.Fields.{HeadField, TaskField, Field, widthInHead, widthInTask, numberIn, IsTaskField}
+use Rattle.table.specs.Fields.{HeadField, TaskField, Field, widthInTask, numberIn, IsTaskField}
 use Rattle.table.specs.Rules.{part, headRules, taskRules, transactionRules, bodyRules, tableRules}
 use Rattle.table.proofs.Sum.{sum-ext, sum-next}
 use Rattle.table.proofs.Rules as rules
@@ -25,9 +24,9 @@ use Rattle.refusals.specs.Answer.{_then_, firstOf}
 use Rattle.refusals.proofs.Findings.{then-joins, then-same, first-same}
 use Rattle.row.specs.Row.{transactionCell, taskCell, timesCell, periodCell, modesCell, hasCell, offsetCell, jitterCell, blockingCell, deadlineCell, priorityCell, tableOf, headCell, bodyCell, timeCell}
 use Rattle.row.proofs.Held.{held-period, held-modes, held-tasks, held-offset, held-jitter, held-blocking, held-deadline, held-priority, held-time}
-use Rattle.format.specs.Places.{placeInHead, placeInTask, taskWidth, taskAt}
+use Rattle.format.specs.Places.{taskAt}
 use Rattle.format.specs.Write.{startOf, tableLook, tableFault}
-use Rattle.writer.specs.Scan.{fitsAt, lookAt, headNumber, taskNumber, headLook, taskLook, headerFault, taskFault, headFault, transactionFault, bodyFault}
+use Rattle.writer.specs.Scan.{fitsAt, lookAt, headNumber, taskNumber, headLook, headerFault, taskFault, headFault, transactionFault, bodyFault}
 
 -- a number is below 2 ^ w where shifting it down by w leaves nothing
 pub none-above : (n w : ℕ) → eqb (n / 2 ^ w) 0 ≡ ltb n (2 ^ w)

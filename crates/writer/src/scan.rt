@@ -12,7 +12,7 @@ ghost use Prim.Native.Nat.{_+_, _*_, _^_, _<_, _≤_};
 ghost use Rattle.table.specs.Sum.{sum};
 ghost use Rattle.table.specs.Limits.{timeWidth, transactionsMost, modesMost, tasksMost, tasksInAll};
 ghost use Rattle.table.specs.Table.{transactions};
-ghost use Rattle.refusals.specs.Answer.{firstOf};
+ghost use Rattle.refusals.specs.Answer.{_then_, firstOf};
 ghost use Rattle.row.specs.Row.{modesCell, hasCell, tableOf, headCell, timeCell};
 ghost use Rattle.format.specs.Places.{taskWidth, taskAt};
 ghost use Rattle.format.specs.Write.{tableFault};
@@ -26,20 +26,36 @@ fn fits(number: u32, width: usize, at: usize) -> Answer
     check(number >> width == 0, Refusal::TooLarge, at)
 }
 
+// A field that has a rule: its number is too large for it, and then what the rule finds.
+fn field(number: u32, width: usize, at: usize, rule: Answer) -> Answer
+    requires { ⌜ width < 32 ⌝ }
+    ensures { λ r. ⌜ r ≡ (fitsAt number width at then rule) ⌝ }
+{
+    fits(number, width, at).then(rule)
+}
+
 fn header(row: &[u32]) -> Answer
     ensures { λ r. ⌜ r ≡ headerFault (now (row .entry)) ⌝ }
 {
     let edition = Table::edition(row);
     let frame = Table::frame(row);
     let count = Table::transactions(row);
-    fits(edition, Table::EDITION_WIDTH, 0).then(rules::edition(edition, 0))
-        .then(fits(frame, Table::FRAME_WIDTH, Table::FRAME_AT))
-        .then(rules::frame(frame, Table::FRAME_AT))
-        .then(fits(count, Table::TRANSACTIONS_WIDTH, Table::COUNT_AT))
-        .then(rules::transactions(count as usize, Table::COUNT_AT))
+    field(edition, Table::EDITION_WIDTH, 0, rules::edition(edition, 0))
+        .then(field(
+            frame,
+            Table::FRAME_WIDTH,
+            Table::FRAME_AT,
+            rules::frame(frame, Table::FRAME_AT),
+        ))
+        .then(field(
+            count,
+            Table::TRANSACTIONS_WIDTH,
+            Table::COUNT_AT,
+            rules::transactions(count as usize, Table::COUNT_AT),
+        ))
 }
 
-// One of the times of task k is too large, the first of which would start at a bit position.
+// One of the times of task k is too large; the first would start at a bit position.
 fn times_fit(row: &[u32], modes: usize, k: usize, at: usize) -> Answer
     requires { ⌜ modes < 16 ⌝ }
     requires { ⌜ at < 2 ^ 33 ⌝ }
@@ -88,8 +104,12 @@ fn task(row: &[u32], modes: usize, k: usize, at: usize) -> Answer
             Task::BLOCKING_WIDTH,
             at + Task::BLOCKING_AT,
         ))
-        .then(fits(due, Task::DEADLINE_WIDTH, deadline))
-        .then(rules::deadline(due, deadline))
+        .then(field(
+            due,
+            Task::DEADLINE_WIDTH,
+            deadline,
+            rules::deadline(due, deadline),
+        ))
         .then(fits(
             Table::priority(row, k),
             Task::PRIORITY_WIDTH,
@@ -99,7 +119,7 @@ fn task(row: &[u32], modes: usize, k: usize, at: usize) -> Answer
         .then(rules::times(times_sum(row, modes, k), times))
 }
 
-// So many tasks from number `first`, the first of which would start at a bit position.
+// So many tasks from number `first` on; that one would start at a bit position.
 fn tasks(row: &[u32], modes: usize, first: usize, count: usize, at: usize) -> Answer
     requires { ⌜ modes < 16 ⌝ }
     requires { ⌜ first < 2 ^ 32 ⌝ }
@@ -133,11 +153,24 @@ fn head(row: &[u32], u: usize, before: usize, at: usize) -> Answer
     let period = Table::period(row, u);
     let modes = Table::modes(row, u);
     let tasks = Table::tasks(row, u);
-    fits(period, Transaction::PERIOD_WIDTH, at).then(rules::period(frame, period, at))
-        .then(fits(modes, Transaction::MODES_WIDTH, modes_at))
-        .then(rules::modes(modes as usize, modes_at))
-        .then(fits(tasks, Transaction::TASKS_WIDTH, tasks_at))
-        .then(rules::tasks(before, tasks as usize, tasks_at))
+    field(
+            period,
+            Transaction::PERIOD_WIDTH,
+            at,
+            rules::period(frame, period, at),
+        )
+        .then(field(
+            modes,
+            Transaction::MODES_WIDTH,
+            modes_at,
+            rules::modes(modes as usize, modes_at),
+        ))
+        .then(field(
+            tasks,
+            Transaction::TASKS_WIDTH,
+            tasks_at,
+            rules::tasks(before, tasks as usize, tasks_at),
+        ))
 }
 
 fn transaction(row: &[u32], u: usize, before: usize, at: usize) -> Answer

@@ -4,7 +4,6 @@ use Rattle.refusals.specs.declared.Answer.the-variants.{Accepted}
 use Rattle.refusals.specs.Answer.{_then_}
 use Rattle.refusals.proofs.Findings.{accepted-is, refused-then}
 use Rattle.writer.proofs.Scanned.{table-parts, few-transactions}
-use borrow.Author.Needs.{needs}
 use Rattle.writer.proofs.scan.first_fault.Statement.{statement}
 use Rattle.writer.proofs.scan.first_fault.Tie as tie
 
@@ -12,10 +11,10 @@ clear : (c : tie.Then1) → c .before .before .header .result ≡ Accepted
 clear c = accepted-is (c .before .before .header .result) (sym (c .before .is-accepted .ensures) ∙ c .if1 .taken)
 
 header-requires : tie.Need-header-requires
-header-requires c κs = search needs
+header-requires c κs = tt
 
 is-accepted-requires : tie.Need-is-accepted-requires
-is-accepted-requires c κs = search needs
+is-accepted-requires c κs = tt
 
 transactions-requires : tie.Need-transactions-requires
 transactions-requires c κs = few-transactions _ (sym (c .before .before .header .ensures) ∙ clear c)

@@ -20,16 +20,16 @@ head-requires : tie.Need-head-requires
 head-requires c κs = search needs
 
 is-accepted-requires : tie.Need-is-accepted-requires
-is-accepted-requires c κs = search needs
+is-accepted-requires c κs = tt
 
 modes-requires : tie.Need-modes-requires
-modes-requires c κs = search needs
+modes-requires c κs = tt
 
 cast-modes : tie.Need-cast-modes
 cast-modes c = search needs
 
 tasks-requires : tie.Need-tasks-requires
-tasks-requires c κs = search needs
+tasks-requires c κs = tt
 
 cast-count : tie.Need-cast-count
 cast-count c = search needs

@@ -1,5 +1,5 @@
 -- `scan::transactions` meets its contract. The invariant: `at` is where transaction u starts, `before` the tasks before it, both small, and the first u transactions have no fault.
-use mathlib.Core.Path.{_≡_, refl, sym, ap, _∙_}
+use mathlib.Core.Path.{_≡_, refl, sym, _∙_}
 use mathlib.Core.List.{List}
 use Prim.Native.Nat.{ℕ, _+_, _-_, _*_, _≤_, _<_, zero-le}
 use native.Mathlib.Omega.{arith}
@@ -11,7 +11,6 @@ use Rattle.refusals.specs.declared.Answer.the-variants.{Accepted}
 use Rattle.refusals.specs.Answer.{firstOf}
 use Rattle.refusals.proofs.Findings.{accepted-is, none-first, go-on, stop}
 use Rattle.row.specs.Row.{tableOf, headCell, modesCell, hasCell}
-use Rattle.format.specs.Places.{taskWidth}
 use Rattle.format.specs.Write.{startOf}
 use Rattle.format.proofs.Places.{tasks-width}
 use Rattle.writer.proofs.Scanned.{Small, small, faults, body-parts, transaction-parts, modes-there, tasks-there, transaction-part, next-start, next-before}
@@ -31,14 +30,14 @@ Inv-loop row count before₀ at₀ u₀ before at u =
 abbrev μ-loop : tie.MeasureT-loop
 μ-loop row count before₀ at₀ u₀ before at u = count - u
 
-there : (c : tie.In-loop Inv-loop μ-loop) → c .before .loop .u < transactions (tableOf (now (c .before .before .before .before .args .row)))
+abbrev row : tie.In-loop Inv-loop μ-loop → List ℕ
+row c = now (c .before .before .before .before .args .row)
+
+there : (c : tie.In-loop Inv-loop μ-loop) → c .before .loop .u < transactions (tableOf (row c))
 there c = omega (arith, c .before .loop .inv .0)
 
 few : (c : tie.In-loop Inv-loop μ-loop) → c .before .loop .u < 32
 few c = omega (arith, c .before .loop .inv .0, c .before .before .before .before .pre)
-
-abbrev row : tie.In-loop Inv-loop μ-loop → List ℕ
-row c = now (c .before .before .before .before .args .row)
 
 -- what was found is what the table's transaction u has
 here : (c : tie.After-transaction Inv-loop μ-loop) → c .transaction .result ≡ faults (tableOf (row (c .before))) (c .before .before .loop .u)
