@@ -1,6 +1,6 @@
 // The first fault of the table that a row holds, front to back. Reading a cell is total, so each check reads its number whether the
 // row holds it or not. A count may be any number: what is counted is looked at only where the count was accepted, and all places
-// are small there.
+// are small there, so that no sum wraps.
 use refusals::Answer;
 use refusals::Refusal;
 use refusals::check;
