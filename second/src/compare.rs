@@ -17,6 +17,18 @@ pub struct Plan {
     pub program: Vec<OsString>,
 }
 
+/// What is compared over a stream: its cases, and our own line for each. Shown, it says how often each answer came.
+pub trait Compared: Default + Display {
+    type Case;
+    /// Case `index` of a seed depends on nothing else.
+    fn case(seed: u64, index: u64) -> Self::Case;
+    fn encoded(case: &Self::Case) -> Vec<u8>;
+    /// The line of a case, counted.
+    fn answered(&mut self, case: &Self::Case) -> String;
+    /// All that a case holds, for a reader.
+    fn told(case: &Self::Case) -> String;
+}
+
 /// How often each answer came: refusals by case, codes by task.
 #[derive(Default)]
 pub struct Counts {
@@ -41,6 +53,28 @@ impl Counts {
     }
 }
 
+impl Compared for Counts {
+    type Case = Case;
+
+    fn case(seed: u64, index: u64) -> Case {
+        case(seed, index)
+    }
+
+    fn encoded(case: &Case) -> Vec<u8> {
+        stream::encoded(case)
+    }
+
+    fn answered(&mut self, case: &Case) -> String {
+        let answer = answer(&case.image, case.budget);
+        self.add(&answer);
+        line(&answer)
+    }
+
+    fn told(case: &Case) -> String {
+        format!("budget {}\nimage {}", case.budget, hex(&case.image))
+    }
+}
+
 impl Display for Counts {
     fn fmt(&self, out: &mut fmt::Formatter) -> fmt::Result {
         for (number, count) in &self.refused {
@@ -58,8 +92,8 @@ impl Display for Counts {
 }
 
 /// Whether no case differs, and what is to be said of it. `watch` gets the number of cases so far.
-pub fn compare(plan: &Plan, watch: &mut dyn FnMut(u64)) -> io::Result<(bool, String)> {
-    let mut counts = Counts::default();
+pub fn compare<C: Compared>(plan: &Plan, watch: &mut dyn FnMut(u64)) -> io::Result<(bool, String)> {
+    let mut counts = C::default();
     let mut from = 0;
     while from < plan.cases {
         let to = (from + plan.batch).min(plan.cases);
@@ -72,35 +106,32 @@ pub fn compare(plan: &Plan, watch: &mut dyn FnMut(u64)) -> io::Result<(bool, Str
 }
 
 /// The first difference in the cases from..to.
-fn batch(
+fn batch<C: Compared>(
     plan: &Plan,
     from: u64,
     to: u64,
-    counts: &mut Counts,
+    counts: &mut C,
     watch: &mut dyn FnMut(u64),
 ) -> io::Result<Option<String>> {
-    let cases: Vec<Case> = (from..to).map(|index| case(plan.seed, index)).collect();
+    let cases: Vec<C::Case> = (from..to).map(|index| C::case(plan.seed, index)).collect();
     let mut command = Command::new(&plan.program[0]);
-    let theirs = run(command.args(&plan.program[1..]), cases.iter().flat_map(stream::encoded).collect())?;
+    let theirs = run(command.args(&plan.program[1..]), cases.iter().flat_map(C::encoded).collect())?;
     if !theirs.status.success() {
         let _ = writeln!(io::stderr(), "second: the program ended with {}", theirs.status);
     }
     let mut lines = theirs.stdout.split_inclusive(|&byte| byte == b'\n');
     for (index, case) in (from..to).zip(&cases) {
-        let ours = answer(&case.image, case.budget);
-        let line = line(&ours);
+        let line = counts.answered(case);
         let their_line = lines.next().unwrap_or(b"");
         if their_line != line.as_bytes() {
             let their_line = String::from_utf8_lossy(their_line);
             return Ok(Some(format!(
-                "difference at seed {} case {index} budget {}\nimage {}\nsecond  {line}program {}\n",
+                "difference at seed {} case {index} {}\nsecond  {line}program {}\n",
                 plan.seed,
-                case.budget,
-                hex(&case.image),
+                C::told(case),
                 their_line.trim_end_matches('\n'),
             )));
         }
-        counts.add(&ours);
         watch(index + 1);
     }
     Ok(lines.next().map(|_| {

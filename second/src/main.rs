@@ -17,6 +17,7 @@ mod stream;
 mod table;
 #[cfg(test)]
 mod tests;
+mod write;
 
 use arguments::{needed, Arguments};
 use interference::Charging;
@@ -42,6 +43,10 @@ const HELP: &str = "usage:
   second words --cases N --seed S --program COMMAND...
   second show --cases N --seed S --program COMMAND...
                                                compare COMMAND's text of each image with our own
+  second write                                 a stream of rows on stdin: one line for each, what is written of it and
+                                               read back
+  second write --cases N --seed S [--batch K] --program COMMAND...
+                                               compare COMMAND's lines with our own
   second simulate --runs N --seed S [--wide]   play legal runs of random small tables against the bounds
   second simulate FILE [--runs N] [--seed S] [--wide]
                                                play legal runs of the table in FILE (- is stdin): the longest
@@ -125,15 +130,9 @@ fn run(command: &str, mut arguments: Arguments) -> Result<End, Trouble> {
             arguments.end()?;
             generate_stream(cases, seed)
         }
-        "compare" => {
-            let program = arguments.program()?;
-            let (cases, seed) = (arguments.number("--cases")?, arguments.number("--seed")?);
-            let batch = arguments.number_if_given("--batch")?.unwrap_or(1000).max(1);
-            arguments.end()?;
-            let name = program[0].to_string_lossy().into_owned();
-            let plan = compare::Plan { cases, seed, batch, program };
-            compared(&name, cases, |watch| compare::compare(&plan, watch))
-        }
+        "compare" => stream_compared::<compare::Counts>(arguments),
+        "write" if arguments.rest.is_empty() => write_stream(),
+        "write" => stream_compared::<write::compare::Counts>(arguments),
         "words" => text(desk::Text::Words, arguments),
         "show" => text(desk::Text::Show, arguments),
         "simulate" => {
@@ -148,6 +147,17 @@ fn run(command: &str, mut arguments: Arguments) -> Result<End, Trouble> {
         }
         _ => Err(Trouble::Told(format!("there is no command {command}; second help lists them"))),
     }
+}
+
+/// A comparison over a stream of cases.
+fn stream_compared<C: compare::Compared>(mut arguments: Arguments) -> Result<End, Trouble> {
+    let program = arguments.program()?;
+    let (cases, seed) = (arguments.number("--cases")?, arguments.number("--seed")?);
+    let batch = arguments.number_if_given("--batch")?.unwrap_or(1000).max(1);
+    arguments.end()?;
+    let name = program[0].to_string_lossy().into_owned();
+    let plan = compare::Plan { cases, seed, batch, program };
+    compared(&name, cases, |watch| compare::compare::<C>(&plan, watch))
 }
 
 /// The text of one image, or the comparison of many.
@@ -235,15 +245,26 @@ fn image_from_stdin() -> Result<Vec<u8>, Trouble> {
     image_from(io::stdin().lock()).map_err(with("standard input"))
 }
 
-fn answer_stream() -> Result<End, Trouble> {
+/// A line for each case that `next` finds on standard input.
+fn stream_answered<C>(
+    next: impl Fn(&mut io::BufReader<io::StdinLock>) -> io::Result<Option<C>>,
+    line: impl Fn(&C) -> String,
+) -> Result<End, Trouble> {
     let mut input = io::BufReader::new(io::stdin().lock());
     let mut output = BufWriter::new(io::stdout().lock());
-    while let Some(case) = stream::next(&mut input).map_err(with("standard input"))? {
-        let line = answer::line(&answer::answer(&case.image, case.budget));
-        output.write_all(line.as_bytes()).map_err(with("standard output"))?;
+    while let Some(case) = next(&mut input).map_err(with("standard input"))? {
+        output.write_all(line(&case).as_bytes()).map_err(with("standard output"))?;
     }
     output.flush().map_err(with("standard output"))?;
     Ok(End::Well)
+}
+
+fn answer_stream() -> Result<End, Trouble> {
+    stream_answered(|input| stream::next(input), |case| answer::line(&answer::answer(&case.image, case.budget)))
+}
+
+fn write_stream() -> Result<End, Trouble> {
+    stream_answered(|input| write::stream::next(input), |case| write::stream::answered(case).1)
 }
 
 fn generate_stream(cases: u64, seed: u64) -> Result<End, Trouble> {

@@ -39,6 +39,8 @@ fn what_cannot_be_carried_out_is_told_with_status_3() {
         (&["generate", "--cases", "many", "--seed", "1"], "--cases needs a number"),
         (&["compare", "--cases", "1", "--seed", "1"], "--program is missing"),
         (&["compare", "--cases", "1", "--seed", "1", "--program", "/no/program"], "/no/program: "),
+        (&["write", "--cases", "1", "--seed", "1"], "--program is missing"),
+        (&["write", "--cases", "1", "--seed", "1", "--program", "/no/program"], "/no/program: "),
         (&["words", "--aligned"], "what is --aligned?"),
         (&["show", "--open"], "what is --open?"),
         (&["words", "--cases", "1", "--seed", "1"], "--program is missing"),
@@ -95,15 +97,30 @@ fn an_endless_input_is_refused() {
 
 #[test]
 fn a_program_that_answers_otherwise_is_a_difference() {
-    let compare = |program: &[&str]| {
-        output(&[&["compare", "--cases", "40", "--seed", "1", "--batch", "20", "--program"], program].concat())
-    };
-    let same = compare(&[env!("CARGO_BIN_EXE_second"), "answer"]);
-    assert_eq!(same.status.code(), Some(0), "{same:?}");
-    assert!(text(&same.stdout).starts_with("seed 1: 40 cases, no difference\n"));
-    let other = compare(&["true"]);
-    assert_eq!(other.status.code(), Some(1), "{other:?}");
-    assert!(text(&other.stdout).starts_with("difference at seed 1 case 0 "));
+    for (command, itself, told) in [("compare", "answer", "accepted: "), ("write", "write", "written: ")] {
+        let compare = |program: &[&str]| {
+            output(&[&[command, "--cases", "40", "--seed", "1", "--batch", "20", "--program"], program].concat())
+        };
+        let same = compare(&[env!("CARGO_BIN_EXE_second"), itself]);
+        assert_eq!(same.status.code(), Some(0), "{same:?}");
+        assert!(text(&same.stdout).starts_with("seed 1: 40 cases, no difference\n"));
+        assert!(text(&same.stdout).contains(told), "{same:?}");
+        let other = compare(&["true"]);
+        assert_eq!(other.status.code(), Some(1), "{other:?}");
+        assert!(text(&other.stdout).starts_with("difference at seed 1 case 0 "));
+    }
+}
+
+/// One byte of one buffer, or one cell that was read back.
+#[test]
+fn a_program_that_writes_one_thing_otherwise_is_a_difference() {
+    for word in [3, 1066] {
+        let script = format!("\"$0\" write | awk 'NR == 9 {{ $({word}) = $({word}) \"0\" }} {{ print }}'");
+        let program = ["--program", "sh", "-c", &script, env!("CARGO_BIN_EXE_second")];
+        let output = output(&[&["write", "--cases", "20", "--seed", "4"], &program[..]].concat());
+        assert_eq!(output.status.code(), Some(1), "{output:?}");
+        assert!(text(&output.stdout).starts_with("difference at seed 4 case 8 buffer "));
+    }
 }
 
 /// A program that takes `open` and `aligned` as its last word, and may say something on standard error.

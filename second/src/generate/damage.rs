@@ -101,7 +101,12 @@ fn cut_in_field(random: &mut Random, fields: &[Field]) -> Vec<u8> {
 fn spoil(random: &mut Random, fields: &mut [Field], kind: Kind, frame: i64) {
     let places: Vec<usize> = (0..fields.len()).filter(|&index| fields[index].kind == kind).collect();
     let index = random.pick(&places);
-    fields[index].value = match kind {
+    fields[index].value = refused_number(random, kind, frame);
+}
+
+/// A number that fits a field of that kind and that its check refuses.
+pub fn refused_number(random: &mut Random, kind: Kind, frame: i64) -> i64 {
+    match kind {
         Kind::Edition => random.pick(&[0, 2, 3, 4, 8, 9, 14, 15]),
         Kind::Frame | Kind::Deadline => 0,
         Kind::TransactionCount => random.pick(&[0, 33, 34, 63]),
@@ -109,7 +114,7 @@ fn spoil(random: &mut Random, fields: &mut [Field], kind: Kind, frame: i64) {
         Kind::ModeCount => random.pick(&[0, 9, 10, 15]),
         Kind::TaskCount => random.pick(&[0, 17, 18, 31]),
         _ => unreachable!("no value of this field is refused by itself"),
-    };
+    }
 }
 
 /// More than 64 tasks, none of the counts above 16.

@@ -8,6 +8,7 @@ mod many;
 mod papers;
 mod progress;
 mod refusals;
+mod write;
 
 use crate::answer::{cells, Cells};
 use crate::bound::{watched, Step};

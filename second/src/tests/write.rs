@@ -1,0 +1,234 @@
+//! Writing tables: images and refusals that were worked out by hand, and that what is written reads back.
+
+use super::*;
+use crate::compare::hex;
+use crate::draft;
+use crate::image::{read, Refusal};
+use crate::write::row::{row_of, Lent, CELLS};
+use crate::write::writer::{image, write};
+use crate::write::{cases, stream};
+use std::collections::BTreeSet;
+
+/// Cells of S: transaction 1, the tasks 0 to 2, and where a task's times start.
+const SECOND_HEAD: usize = 10;
+const TASKS: [usize; 3] = [165, 179, 193];
+const TIMES: usize = 6;
+
+fn written(cells: &[u32]) -> Result<Vec<u8>, (u32, u32)> {
+    image(&Lent::of(cells)).map_err(|Refusal { number, place }| (number, place))
+}
+
+/// What becomes of S when these cells hold these numbers.
+fn refused(changes: &[(usize, u32)]) -> (u32, u32) {
+    let mut cells = row_of(&s());
+    for &(cell, number) in changes {
+        cells[cell] = number;
+    }
+    written(&cells).expect_err("refused")
+}
+
+#[test]
+fn the_last_image_of_document_01() {
+    let mut cells = vec![0; CELLS];
+    cells[..3].copy_from_slice(&[1, 10, 1]);
+    cells[5..9].copy_from_slice(&[10, 1, 0, 1]);
+    cells[165..172].copy_from_slice(&[0, 0, 0, 10, 5, 0, 3]);
+    let bytes = [&[0x10, 0, 0, 0xA0, 0x40, 0, 2, 0x84, 0x20][..], &[0; 11], &[0x50, 0x28, 0, 0, 0x18]].concat();
+    assert_eq!(written(&cells), Ok(bytes));
+}
+
+#[test]
+fn s_has_62_bytes() {
+    let expected = "10000140800005044000000000000000000000005048000010000020000000000000000014100000060000\
+                    28210000000000000000000000010040000080";
+    let bytes = written(&row_of(&s())).unwrap();
+    assert_eq!((bytes.len(), hex(&bytes)), (62, expected.into()));
+}
+
+#[test]
+fn each_number_has_its_cell() {
+    let cells = row_of(&s());
+    assert_eq!(CELLS, 1061);
+    assert_eq!(cells[..5], [1, 20, 2, 3, 0]);
+    assert_eq!(cells[5..15], [20, 1, 0, 2, 0, 20, 1, 2, 1, 0]);
+    assert_eq!(cells[15..165], [0; 150]);
+    assert_eq!(cells[165..179], [0, 0, 0, 10, 9, 0, 2, 0, 0, 0, 0, 0, 0, 0]);
+    assert_eq!(cells[179..193], [4, 0, 0, 10, 8, 0, 3, 0, 0, 0, 0, 0, 0, 0]);
+    assert_eq!(cells[193..207], [0, 0, 0, 4, 1, 1, 2, 0, 0, 0, 0, 0, 0, 0]);
+    assert_eq!(cells[207..], [0; 1061 - 207]);
+}
+
+#[test]
+fn a_number_too_large_is_29_at_its_field() {
+    for (cell, width, place) in [
+        (0, 4, 0),
+        (1, 24, 4),
+        (2, 6, 28),
+        (5, 24, 34),
+        (6, 4, 58),
+        (8, 5, 62),
+        (TASKS[0], 24, 67),
+        (TASKS[0] + 1, 24, 91),
+        (TASKS[0] + 2, 24, 115),
+        (TASKS[0] + 3, 26, 139),
+        (TASKS[0] + 4, 8, 165),
+        (TASKS[0] + TIMES, 24, 173),
+        (TASKS[1], 24, 197),
+        (SECOND_HEAD, 24, 327),
+        (SECOND_HEAD + 1, 4, 351),
+        (SECOND_HEAD + 3, 5, 355),
+        (TASKS[2] + 3, 26, 432),
+        (TASKS[2] + TIMES, 24, 466),
+    ] {
+        for number in [1 << width, (1 << width) + row_of(&s())[cell], 1 << 31, u32::MAX] {
+            assert_eq!(refused(&[(cell, number)]), (29, place), "cell {cell}: {number}");
+        }
+        // The greatest number that fits is no 29.
+        let mut cells = row_of(&s());
+        cells[cell] = (1 << width) - 1;
+        assert_ne!(written(&cells).err().map(|refusal| refusal.0), Some(29), "cell {cell}");
+    }
+}
+
+#[test]
+fn the_readers_numbers_at_their_fields() {
+    for edition in [0, 2, 3, 15] {
+        assert_eq!(refused(&[(0, edition)]), (2, 0));
+    }
+    assert_eq!(refused(&[(0, 16)]), (29, 0));
+    assert_eq!(refused(&[(1, 0)]), (3, 4));
+    for count in [0, 33, 63] {
+        assert_eq!(refused(&[(2, count)]), (4, 28));
+    }
+    assert_eq!(refused(&[(2, 64)]), (29, 28));
+    for period in [0, 3, 40] {
+        assert_eq!(refused(&[(SECOND_HEAD, period)]), (5, 327));
+    }
+    for modes in [0, 9, 15] {
+        assert_eq!(refused(&[(SECOND_HEAD + 1, modes)]), (6, 351));
+    }
+    assert_eq!(refused(&[(SECOND_HEAD + 1, 16)]), (29, 351));
+    for count in [0, 17, 31] {
+        assert_eq!(refused(&[(SECOND_HEAD + 3, count)]), (7, 355));
+    }
+    assert_eq!(refused(&[(SECOND_HEAD + 3, 32)]), (29, 355));
+    assert_eq!(refused(&[(TASKS[1] + 3, 0)]), (8, 269));
+    assert_eq!(refused(&[(TASKS[1] + TIMES, 0)]), (9, 303));
+}
+
+#[test]
+fn the_tasks_in_all_count_at_the_field_that_passes_64() {
+    let sixteen = transaction(20, vec![task(0, &[1], 1); 16]);
+    let mut cells = row_of(&Table { frame: 20, transactions: vec![sixteen; 4] });
+    // 34 + 4·33 + 64·130 bits.
+    assert_eq!(written(&cells).map(|bytes| bytes.len()), Ok(8486usize.div_ceil(8)));
+    cells[2] = 5;
+    cells[25..29].copy_from_slice(&[20, 1, 0, 1]);
+    assert_eq!(written(&cells), Err((7, 8486 + 28)));
+    cells[28] = 32;
+    assert_eq!(written(&cells), Err((29, 8486 + 28)));
+}
+
+/// Two modes in the first transaction: its tasks have 154 bits each.
+#[test]
+fn a_time_too_large_comes_before_no_time() {
+    let first_time = 67 + 106;
+    for (times, expected) in [
+        ([0, 1 << 24], (29, first_time + 24)),
+        ([1 << 24, 0], (29, first_time)),
+        ([0, 0], (9, first_time)),
+        // What is beyond the modes is no time of the task.
+        ([0, 1], (5, 67 + 2 * 154)),
+        ([1, 0], (5, 67 + 2 * 154)),
+    ] {
+        let (one, two) = (TASKS[0] + TIMES, TASKS[1] + TIMES);
+        let changes =
+            [(6, 2), (one, times[0]), (one + 1, times[1]), (one + 2, 7), (two, 0), (two + 1, 1), (SECOND_HEAD, 7)];
+        assert_eq!(refused(&changes), expected, "{times:?}");
+    }
+}
+
+#[test]
+fn the_first_fault_counts() {
+    assert_eq!(refused(&[(TASKS[0], 1 << 24), (TASKS[0] + 3, 0), (1, 0)]), (3, 4));
+    assert_eq!(refused(&[(TASKS[0], 1 << 24), (TASKS[0] + 3, 0)]), (29, 67));
+    assert_eq!(refused(&[(TASKS[0] + 4, 256), (TASKS[0] + 3, 0)]), (8, 139));
+    assert_eq!(refused(&[(TASKS[0] + 4, 256), (TASKS[0] + TIMES, 0)]), (29, 165));
+    assert_eq!(refused(&[(0, 2), (1, 1 << 24)]), (2, 0));
+}
+
+#[test]
+fn no_other_cell_is_looked_at() {
+    let good = row_of(&s());
+    let mut cells = vec![u32::MAX; CELLS];
+    let heads = [0..3, 5..7, 8..9, 10..12, 13..14];
+    let bodies = TASKS.map(|task| [task..task + 5, task + TIMES..task + TIMES + 1]);
+    for range in heads.into_iter().chain(bodies.into_iter().flatten()) {
+        cells[range.clone()].copy_from_slice(&good[range]);
+    }
+    assert_eq!(written(&cells), written(&good));
+}
+
+#[test]
+fn a_refused_write_leaves_the_buffer_and_the_bytes_beyond_an_image_stay() {
+    let image = draft::image(&s());
+    let good = Lent::of(&row_of(&s()));
+    for length in [0, 1, 61] {
+        let mut buffer = vec![0xA5; length];
+        assert_eq!(write(&good, &mut buffer), Err(Refusal { number: 30, place: 0 }));
+        assert_eq!(buffer, vec![0xA5; length]);
+    }
+    for more in [0, 1, 40] {
+        let mut buffer = vec![0xA5; 62 + more];
+        assert_eq!(write(&good, &mut buffer), Ok(62));
+        assert_eq!(buffer, [&image[..], &vec![0xA5; more]].concat());
+    }
+    // A fault comes before a buffer too short.
+    let faulty = Lent { frame: 0, ..good };
+    for length in [0, 61, 62] {
+        let mut buffer = vec![0xA5; length];
+        assert_eq!(write(&faulty, &mut buffer), Err(Refusal { number: 3, place: 4 }));
+        assert_eq!(buffer, vec![0xA5; length]);
+    }
+}
+
+#[test]
+fn the_longest_table_has_2521_bytes_and_no_padding() {
+    let most = Task { offset: 0xFFFFFF, deadline: 0x3FFFFFF, priority: 255, ..task(0, &[0xFFFFFF; 8], 1) };
+    let two = transaction(20, vec![most; 2]);
+    let table = Table { frame: 20, transactions: vec![two; 32] };
+    let bytes = written(&row_of(&table)).unwrap();
+    assert_eq!(bytes.len(), 2521);
+    assert_eq!(read(&bytes), Ok(table));
+}
+
+#[test]
+fn a_row_in_a_stream_comes_out_as_it_went_in() {
+    let rows: Vec<_> = (0..4).map(|index| cases::case(5, index)).collect();
+    let bytes: Vec<u8> = rows.iter().flat_map(stream::encoded).collect();
+    let mut input = &bytes[..];
+    for row in rows {
+        assert_eq!(stream::next(&mut input).unwrap(), Some(row));
+    }
+    assert_eq!(stream::next(&mut input).unwrap(), None);
+    assert!(stream::next(&mut &bytes[..100]).is_err());
+}
+
+/// What is written is what the reader takes for the same table; and every refusal of the writer is met.
+#[test]
+fn random_rows_meet_every_answer_and_read_back() {
+    let mut numbers = BTreeSet::new();
+    for index in 0..1000 {
+        let case = cases::case(3, index);
+        let lent = Lent::of(&case.cells);
+        let Ok(bytes) = image(&lent) else {
+            numbers.insert(image(&lent).unwrap_err().number);
+            continue;
+        };
+        let table = read(&bytes).expect("what is written is good");
+        assert_eq!(draft::image(&table), bytes);
+        assert_eq!(image(&Lent::of(&row_of(&table))), Ok(bytes));
+        numbers.insert(write(&lent, &mut vec![0; case.length]).map_or_else(|refusal| refusal.number, |_| 0));
+    }
+    assert_eq!(numbers, [0, 2, 3, 4, 5, 6, 7, 8, 9, 29, 30].into());
+}
