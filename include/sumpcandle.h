@@ -24,6 +24,18 @@ extern "C" {
    its time grows with the evaluations that it makes, at most `budget`, and with what one of them costs. */
 uint64_t sumpcandle_response(const uint8_t *image, size_t length, uint32_t task, uint32_t budget);
 
+/* A table lent as a row of cells: 5 of the header, 5 of each of 32 transactions, 14 of each of 64 tasks. */
+#define SUMPCANDLE_TABLE_CELLS 1061
+
+/* The table of an image, into SUMPCANDLE_TABLE_CELLS cells. The answer is number * 2^32 + place: 0 where the image is
+   accepted, and then every cell is written; with a refusal, 1 to 11, the cells stay as they were. */
+uint64_t sumpcandle_read(const uint8_t *image, size_t length, uint32_t *cells);
+
+/* The image of the table in SUMPCANDLE_TABLE_CELLS cells, into a buffer of `length` bytes. The answer is the image's
+   length where it is written, and then the bytes beyond it stay as they were; else number * 2^32 + place with a refusal,
+   2 to 9, 29 or 30, and then every byte of the buffer stays as it was. */
+uint64_t sumpcandle_write(const uint32_t *cells, uint8_t *buffer, size_t length);
+
 /* Bytes of stack to leave for a call, beside what a thread needs of its own. Not proved: bench/stack.c measured 32,432 over the
    samples, and the gate fails where it measures more than this. */
 #define SUMPCANDLE_STACK 36864
