@@ -1,7 +1,8 @@
-/* How many bytes of stack one call of sumpcandle_response takes: it is called on a stack of a known pattern, and so is a
-   function that does nothing; the difference of what the two leave changed is printed.
+/* How many bytes of stack one call of a function of sumpcandle.h takes: they are called on a stack of a known pattern, and so
+   is a function that does nothing; the difference of what the two leave changed is printed.
 
-   stack FILE...    asks for every task of each image, and prints the greatest; status 1 where it is above SUMPCANDLE_STACK */
+   stack FILE...    asks for every task of each image, reads it into cells and writes these, and prints the greatest; status 1
+                    where it is above SUMPCANDLE_STACK */
 
 #define _POSIX_C_SOURCE 200809L
 
@@ -14,7 +15,8 @@
 
 enum { SIZE = 1 << 20, LONGEST = 8192, BUDGET = 2000, PATTERN = 0xA5 };
 
-static uint8_t image[LONGEST];
+static uint8_t image[LONGEST], written[LONGEST];
+static uint32_t cells[SUMPCANDLE_TABLE_CELLS];
 static size_t length;
 
 static void *nothing(void *task) { return task; }
@@ -25,6 +27,8 @@ static void *asks(void *task) {
             break;
         }
     }
+    sumpcandle_read(image, length, cells);
+    sumpcandle_write(cells, written, LONGEST);
     return task;
 }
 
