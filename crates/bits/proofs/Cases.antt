@@ -48,11 +48,11 @@ no-bits : fieldAt start 0 0 ≡ NoWidth
 unfolding fieldAt valueAt bitAt
 no-bits = refl
 
-most-significant-first : fieldBits 4 6 ≡ 0 ∷ 1 ∷ 1 ∷ 0 ∷ []
+most-significant-first : fieldBits 4 2 ≡ 0 ∷ 0 ∷ 1 ∷ 0 ∷ []
 unfolding fieldBits
 most-significant-first = refl
 
 -- three bits across a byte's edge: what stands before them stays, what stands behind them in their byte is cleared
-across : bitsPut (0xFF ∷ 0xFF ∷ 0xFF ∷ []) 6 (fieldBits 3 5) ≡ 0xFE ∷ 0x80 ∷ 0xFF ∷ []
+across : bitsPut (0xFF ∷ 0xFF ∷ 0xFF ∷ []) 6 (fieldBits 3 1) ≡ 0xFC ∷ 0x80 ∷ 0xFF ∷ []
 unfolding bitsPut bitPut fieldBits valueAt bitAt
 across = refl

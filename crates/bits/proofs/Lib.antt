@@ -1,4 +1,5 @@
 pub mod Tests
 pub mod Fields
 pub mod Bytes
+pub mod Put
 pub mod Cases

@@ -21,7 +21,7 @@ use Rattle.format.proofs.Accepted.{SoundHead, SoundTask, time-inside, h
 use Rattle.format.specs.Image.{taskBits, transactionBits, tableBits, numberOf, bytesOf, imageOf}
 use Rattle.format.proofs.Spans.{bitsFrom, Span, meet, field-to, from, joined-span}
 
-listed-joined {ℓ} :
+pub listed-joined {ℓ} :
     {A : Type ℓ} (n : ℕ) (f : ℕ → A) (d : A) (g : A → List ℕ)
     → joined (length (listOf n f)) (λ k. g (getD (listOf n f) k d)) ≡ joined n (λ k. g (f k))
 listed-joined n f d g = rw (length-listOf n f) (joined-same n _ _ (λ k h. ap g (getD-listOf n f k d h)))

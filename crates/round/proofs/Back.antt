@@ -16,7 +16,8 @@ use Rattle.format.specs.Fault.{placeIn}
 use Rattle.format.specs.Image.{taskBits, transactionBits, tableBits, imageOf}
 use Rattle.format.specs.Write.{startOf, placeOf}
 use Rattle.round.proofs.Bits.{table-bits, image-length}
-use Rattle.round.proofs.Places.{length-field, timeBits, length-times, length-tasks, length-front}
+use Rattle.bits.proofs.Put.{length-field}
+use Rattle.round.proofs.Places.{timeBits, length-times, length-tasks, length-front}
 use Rattle.round.proofs.Stands.{Stands, all-stand, first-part, second-part, joined-part, three, first-of, second-of, third-of, rest-of, field-back}
 
 -- ---- every field of a table stands among its bits

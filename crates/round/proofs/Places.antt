@@ -7,6 +7,7 @@ use native.Mathlib.Numerals.{add-one}
 use native.Mathlib.Omega.{arith}
 use lib.ListN.{length, getD, length-append}
 use Rattle.bits.specs.Bits.{fieldBits}
+use Rattle.bits.proofs.Put.{length-field}
 use Rattle.table.specs.Table.{Task, Table, transactions, transaction, modes, tasks, task}
 use Rattle.table.specs.Limits.{timeWidth}
 use Rattle.table.specs.Fields.{Timed}
@@ -17,11 +18,6 @@ use Rattle.format.specs.Image.{taskBits, transactionBits, tableBits, imageOf}
 use Rattle.format.specs.Write.{startOf}
 use Rattle.round.proofs.Bits.{image-length}
 
-pub length-field : (w v : ℕ) → length (fieldBits w v) ≡ w
-unfolding fieldBits
-length-field zero v = refl
-length-field (suc w) v = rw (length-append, length-field w, add-one w)
-
 -- ---- a task
 
 module _ (t : Task) where
@@ -31,7 +27,7 @@ module _ (t : Task) where
   pub length-times : (m : ℕ) → length (joined m timeBits) ≡ m * timeWidth
   length-times m = length-joined m timeWidth timeBits (λ k h. length-field timeWidth _)
 
-  length-task : length (taskBits t) ≡ taskWidth (length (t .times))
+  pub length-task : length (taskBits t) ≡ taskWidth (length (t .times))
   unfolding taskBits
   length-task = simp (length-append, length-field, length-times)
 

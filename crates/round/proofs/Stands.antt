@@ -13,7 +13,7 @@ use Rattle.format.specs.Places.{bytesTo}
 use Rattle.format.specs.Image.{numberOf, bytesOf}
 use Rattle.format.proofs.Round.{number-same}
 use Rattle.round.proofs.Bits.{AreBits, value-in}
-use Rattle.round.proofs.Places.{length-field}
+use Rattle.bits.proofs.Put.{length-field}
 
 pub record Stands (bits : List ℕ) (p : ℕ) (l : List ℕ) : Type 0 where
   pub each : (k : ℕ) → k < length l → getD bits (p + k) 0 ≡ getD l k 0

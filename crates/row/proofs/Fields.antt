@@ -6,13 +6,13 @@ use Prim.Native.Nat.{ℕ, _+_, _≤_, _<_}
 use native.Mathlib.Omega.{arith}
 use lib.ListN.{getD}
 use lib.Seq.{take-all, getD-take}
-use borrow.Author.Tests.{lt-ltb}
-use Rattle.table.specs.Limits.{transactionsMost, modesMost, tasksInAll}
+use Rattle.table.specs.Limits.{modesMost, tasksInAll}
 use Rattle.table.specs.Table.{Table, transactions, period, modes, tasks, offset, jitter, blocking, deadline, priority, time, IsTask}
 use Rattle.table.specs.Number.{before, inAll, number}
 use Rattle.table.specs.Kept.{Kept}
 use Rattle.table.proofs.Number.{number-lt}
 use Rattle.row.specs.Row.{taskCells, rowCells, inAllCell, transactionCell, periodCell, modesCell, firstCell, hasCell, taskCell, offsetCell, jitterCell, blockingCell, deadlineCell, priorityCell, ownerCell, timesCell, rowOf, tableOf, RowOfTable, headCell, bodyCell, timeCell}
+use Rattle.row.proofs.Readers.{head-cell, body-cell, time-cell}
 use Rattle.row.proofs.Held.{held-period, held-modes, held-tasks, held-offset, held-jitter, held-blocking, held-deadline, held-priority, held-time}
 use Rattle.row.proofs.Rows.{row-size, row-holds, row-in-all, row-first, row-owner}
 
@@ -36,10 +36,7 @@ module _ {row : List ℕ} (is : RowOfTable row) where
 
   module _ {u : ℕ} (h : u < transactions (tableOf row)) where
     pub head-there : (i : ℕ) → headCell row u i ≡ getD row (transactionCell u + i) 0
-    unfolding headCell
-    head-there i =
-        let few : u < transactionsMost = omega (arith, is .kept .fewTransactions) in
-        rw (lt-ltb u transactionsMost few)
+    head-there i = head-cell row u i (omega (arith, is .kept .fewTransactions))
 
     pub read-period : headCell row u periodCell ≡ period (tableOf row) u
     read-period = head-there periodCell ∙ sym (held-period row h)
@@ -63,11 +60,11 @@ module _ {row : List ℕ} (is : RowOfTable row) where
     pub task-within : taskCell (number (tableOf row) u j) + taskCells ≤ rowCells
     task-within = omega (arith, number-lt (tableOf row) t, is .kept .fewTasks)
 
+    few : number (tableOf row) u j < tasksInAll
+    few = omega (arith, number-lt (tableOf row) t, is .kept .fewTasks)
+
     pub body-there : (i : ℕ) → bodyCell row (number (tableOf row) u j) i ≡ getD row (taskCell (number (tableOf row) u j) + i) 0
-    unfolding bodyCell
-    body-there i =
-        let few : number (tableOf row) u j < tasksInAll = omega (arith, number-lt (tableOf row) t, is .kept .fewTasks) in
-        rw (lt-ltb (number (tableOf row) u j) tasksInAll few)
+    body-there i = body-cell row (number (tableOf row) u j) i few
 
     pub read-offset : bodyCell row (number (tableOf row) u j) offsetCell ≡ offset (tableOf row) u j
     read-offset = body-there offsetCell ∙ sym (held-offset row t)
@@ -88,7 +85,7 @@ module _ {row : List ℕ} (is : RowOfTable row) where
     read-owner = body-there ownerCell ∙ in-row (omega (arith, task-within)) ∙ row-owner (tableOf row) (is .kept) u j t
 
     pub read-time : {m : ℕ} → m < modes (tableOf row) u → timeCell row (number (tableOf row) u j) m ≡ time (tableOf row) u m j
-    unfolding timeCell modes
+    unfolding modes
     read-time {m} h =
-        let few : m < modesMost = omega (arith, is .kept .each u (t .owner) .fewModes) in
-        rw (lt-ltb m modesMost few) (body-there (timesCell + m) ∙ sym (held-time row t h))
+        let narrow : m < modesMost = omega (arith, is .kept .each u (t .owner) .fewModes) in
+        time-cell row (number (tableOf row) u j) m few narrow ∙ sym (held-time row t h)

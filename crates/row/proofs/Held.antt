@@ -22,21 +22,21 @@ module _ (row : List ℕ) where
   -- ---- transaction u
 
   module _ {u : ℕ} (h : u < transactions (tableOf row)) where
-    there : transaction (tableOf row) u ≡ transactionOf row u
+    pub transaction-there : transaction (tableOf row) u ≡ transactionOf row u
     unfolding transaction tableOf
-    there = getD-listOf (getD row countCell 0) (transactionOf row) u _ (rw held-transactions at h)
+    transaction-there = getD-listOf (getD row countCell 0) (transactionOf row) u _ (rw held-transactions at h)
 
     pub held-period : period (tableOf row) u ≡ getD row (transactionCell u + periodCell) 0
     unfolding period transactionOf
-    held-period = ap (λ x. x .period) there
+    held-period = ap (λ x. x .period) transaction-there
 
     pub held-modes : modes (tableOf row) u ≡ getD row (transactionCell u + modesCell) 0
     unfolding modes transactionOf
-    held-modes = ap (λ x. x .modes) there
+    held-modes = ap (λ x. x .modes) transaction-there
 
     pub held-tasks : tasks (tableOf row) u ≡ getD row (transactionCell u + hasCell) 0
     unfolding tasks transactionOf
-    held-tasks = rw there (length-listOf (getD row (transactionCell u + hasCell) 0) _)
+    held-tasks = rw transaction-there (length-listOf (getD row (transactionCell u + hasCell) 0) _)
 
   pub held-before : (u : ℕ) → u ≤ transactions (tableOf row) → before (tableOf row) u ≡ tasksBefore row u
   unfolding before tasksBefore
@@ -49,7 +49,7 @@ module _ (row : List ℕ) where
     unfolding task transactionOf number
     task-there =
         let within : j < getD row (transactionCell u + hasCell) 0 = rw (held-tasks (t .owner)) at (t .place) in
-        rw (there (t .owner), held-modes (t .owner), held-before u (omega (arith, t .owner)))
+        rw (transaction-there (t .owner), held-modes (t .owner), held-before u (omega (arith, t .owner)))
         (getD-listOf (getD row (transactionCell u + hasCell) 0)
         (λ i. taskOf row (getD row (transactionCell u + modesCell) 0) (tasksBefore row u + i)) j noTask within)
 

@@ -1,3 +1,4 @@
+pub mod Readers
 pub mod Held
 pub mod Rows
 pub mod Fields

@@ -23,6 +23,7 @@ use Rattle.refusals.specs.declared.Answer.the-variants.{Accepted}
 use Rattle.refusals.specs.Answer.{_then_, firstOf}
 use Rattle.refusals.proofs.Findings.{then-joins, then-same, first-same}
 use Rattle.row.specs.Row.{transactionCell, taskCell, timesCell, periodCell, modesCell, hasCell, offsetCell, jitterCell, blockingCell, deadlineCell, priorityCell, tableOf, headCell, bodyCell, timeCell}
+use Rattle.row.proofs.Readers.{head-cell, body-cell, time-cell}
 use Rattle.row.proofs.Held.{held-period, held-modes, held-tasks, held-offset, held-jitter, held-blocking, held-deadline, held-priority, held-time}
 use Rattle.format.specs.Places.{taskAt}
 use Rattle.format.specs.Write.{startOf, tableLook, tableFault}
@@ -64,37 +65,32 @@ module _ (row : List ℕ) where
   -- ---- transaction u, which is not too many
 
   module _ {u : ℕ} (there : u < transactions (tableOf row)) (few : u < transactionsMost) where
-    head-there : (i : ℕ) → headCell row u i ≡ getD row (transactionCell u + i) 0
-    unfolding headCell
-    head-there i = rw (lt-ltb u transactionsMost few)
-
     pub modes-there : headCell row u modesCell ≡ modes (tableOf row) u
-    modes-there = head-there modesCell ∙ sym (held-modes row there)
+    modes-there = head-cell row u modesCell few ∙ sym (held-modes row there)
 
     pub tasks-there : headCell row u hasCell ≡ tasks (tableOf row) u
-    tasks-there = head-there hasCell ∙ sym (held-tasks row there)
+    tasks-there = head-cell row u hasCell few ∙ sym (held-tasks row there)
 
     head-same : (f : HeadField) → headNumber row u f ≡ numberIn (tableOf row) (Field.head u f)
     unfolding numberIn
-    head-same HeadField.period = head-there periodCell ∙ sym (held-period row there)
+    head-same HeadField.period = head-cell row u periodCell few ∙ sym (held-period row there)
     head-same HeadField.modes = modes-there
     head-same HeadField.tasks = tasks-there
 
   -- ---- task j of it, where no count is too large
 
   module _ {u j : ℕ} (is : IsTask (tableOf row) u j) (few : number (tableOf row) u j < tasksInAll) (narrow : modes (tableOf row) u ≤ modesMost) where
-    body-there : (i : ℕ) → bodyCell row (number (tableOf row) u j) i ≡ getD row (taskCell (number (tableOf row) u j) + i) 0
-    unfolding bodyCell
-    body-there i = rw (lt-ltb (number (tableOf row) u j) tasksInAll few)
+    cell : (i : ℕ) → bodyCell row (number (tableOf row) u j) i ≡ getD row (taskCell (number (tableOf row) u j) + i) 0
+    cell i = body-cell row (number (tableOf row) u j) i few
 
     number-same : (f : TaskField) → IsTaskField (modes (tableOf row) u) f → taskNumber row (number (tableOf row) u j) f ≡ numberIn (tableOf row) (Field.task u j f)
-    unfolding numberIn timeCell
-    number-same TaskField.offset has = body-there offsetCell ∙ sym (held-offset row is)
-    number-same TaskField.jitter has = body-there jitterCell ∙ sym (held-jitter row is)
-    number-same TaskField.blocking has = body-there blockingCell ∙ sym (held-blocking row is)
-    number-same TaskField.deadline has = body-there deadlineCell ∙ sym (held-deadline row is)
-    number-same TaskField.priority has = body-there priorityCell ∙ sym (held-priority row is)
-    number-same (TaskField.time m) has = rw (lt-ltb m modesMost (omega arith)) (body-there (timesCell + m) ∙ sym (held-time row is has))
+    unfolding numberIn
+    number-same TaskField.offset has = cell offsetCell ∙ sym (held-offset row is)
+    number-same TaskField.jitter has = cell jitterCell ∙ sym (held-jitter row is)
+    number-same TaskField.blocking has = cell blockingCell ∙ sym (held-blocking row is)
+    number-same TaskField.deadline has = cell deadlineCell ∙ sym (held-deadline row is)
+    number-same TaskField.priority has = cell priorityCell ∙ sym (held-priority row is)
+    number-same (TaskField.time m) has = time-cell row (number (tableOf row) u j) m few (omega arith) ∙ sym (held-time row is has)
 
 -- ---- what a head that has no fault says of its counts
 

@@ -1,1 +1,3 @@
 pub mod Scan
+pub mod Parts
+pub mod Write

@@ -190,7 +190,7 @@ fn transaction(row: &[u32], u: usize, before: usize, at: usize) -> Answer
 }
 
 // Where transaction u would end.
-fn end_of(row: &[u32], u: usize, at: usize) -> usize
+pub(crate) fn end_of(row: &[u32], u: usize, at: usize) -> usize
     requires { ⌜ headCell (now row) u modesCell ≤ modesMost ⌝ }
     requires { ⌜ headCell (now row) u hasCell ≤ tasksMost ⌝ }
     requires { ⌜ at < 2 ^ 32 ⌝ }

@@ -8,7 +8,8 @@ use lib.ListN.{length}
 use denote.Ref.{now}
 use Rattle.bits.specs.Bits.{fieldBits}
 use Rattle.bits.specs.Put.{bitsPut}
-use Rattle.put.proofs.BitsPut.{length-put, put-next}
+use Rattle.bits.proofs.Put.{length-put}
+use Rattle.put.proofs.BitsPut.{put-next}
 use Rattle.put.proofs.put.Statement.{statement}
 use Rattle.put.proofs.put.Tie as tie
 
