@@ -10,6 +10,9 @@ use Rattle.refusals.specs.Answer.{answerNumber, answerPlace}
 use Rattle.format.specs.Said.{tableIn}
 use Rattle.format.specs.Fault.{imageFault}
 use Rattle.row.specs.Row.{rowOf}
+use Rattle.table.specs.Table.{Table}
+use Rattle.writer.specs.declared.Writing.{Writing}
+use Rattle.writer.specs.Write.{writingNumber, writingPlace, Writes}
 use Rattle.told.specs.Told.{paired}
 
 -- the cells of the table's row, from the first on; on a refusal every cell stays as it was
@@ -21,3 +24,9 @@ rowOver (Refused refusal at) image before = before
 pub record Takes (image before after : List ℕ) (r : ℕ) : Type 0 where
   pub number : r ≡ paired (answerNumber (imageFault image)) (answerPlace (imageFault image))
   pub cells : after ≡ rowOver (imageFault image) image before
+
+-- Gives tab before after r: the buffer held `before` and holds `after`, as writing that table leaves it, and r is the number
+pub record Gives (tab : Table) (before after : List ℕ) (r : ℕ) : Type 0 where
+  pub writing : Writing
+  pub writes : Writes tab before after writing
+  pub number : r ≡ paired (writingNumber writing) (writingPlace writing)

@@ -6,8 +6,8 @@ ghost use mathlib.Core.Path.{_≡_};
 ghost use lib.ListN.{getD};
 ghost use lib.Seq.{sets};
 ghost use Rattle.table.specs.Lists.{listOf};
-ghost use Rattle.row.specs.Row.{rowCells};
-ghost use Rattle.editor.specs.Editor.{Takes};
+ghost use Rattle.row.specs.Row.{rowCells, tableOf};
+ghost use Rattle.editor.specs.Editor.{Takes, Gives};
 
 // Stores a row's cells, all of them.
 fn store(row: &[u32; Table::CELLS], cells: &mut [u32; Table::CELLS])
@@ -34,4 +34,12 @@ pub fn read(image: &[u8], cells: &mut [u32; Table::CELLS]) -> u64
             told::pair(0, 0)
         }
     }
+}
+
+// The image of the table in the cells, into the buffer: number × 2^32 + place, or the image's length.
+pub fn write(cells: &[u32; Table::CELLS], buffer: &mut [u8]) -> u64
+    ensures { λ r. ⌜ Gives (tableOf (now (cells .entry))) (now (buffer .entry)) (now (buffer .exit)) r ⌝ }
+{
+    let written = writer::write(cells, buffer);
+    told::pair(written.number(), written.place() as u32)
 }

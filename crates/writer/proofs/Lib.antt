@@ -1,3 +1,4 @@
 pub mod Scanned
 pub mod Laid
 pub mod Outcome
+pub mod Returned

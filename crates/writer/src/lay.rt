@@ -45,18 +45,16 @@ fn lay_front(row: &[u32], k: usize, buffer: &mut [u8], at: usize)
     requires { ⌜ at < 2 ^ 32 ⌝ }
     ensures { λ _. ⌜ now (buffer .exit) ≡ bitsPut (now (buffer .entry)) at (frontBits (now (row .entry)) k) ⌝ }
 {
-    put(buffer, at, Task::OFFSET_WIDTH, Table::offset(row, k));
-    put(
-        buffer,
-        at + Task::JITTER_AT,
-        Task::JITTER_WIDTH,
-        Table::jitter(row, k),
-    );
+    let offset = Table::offset(row, k);
+    let jitter = Table::jitter(row, k);
+    let blocking = Table::blocking(row, k);
+    put(buffer, at, Task::OFFSET_WIDTH, offset);
+    put(buffer, at + Task::JITTER_AT, Task::JITTER_WIDTH, jitter);
     put(
         buffer,
         at + Task::BLOCKING_AT,
         Task::BLOCKING_WIDTH,
-        Table::blocking(row, k),
+        blocking,
     );
 }
 
