@@ -14,7 +14,7 @@
 #include "rows.h"
 #include "sumpcandle.h"
 
-enum { LONGEST = 2521, SIDES = 2 };
+enum { SIDES = 2 };
 
 /* The two sides, ours first. */
 struct side {
@@ -30,27 +30,35 @@ struct table {
     long calls;
     size_t length;
     uint32_t cells[SUMPCANDLE_TABLE_CELLS];
-    uint8_t image[SIDES][LONGEST];
+    uint8_t image[SIDES][SUMPCANDLE_LONGEST];
     uint32_t back[SIDES][SUMPCANDLE_TABLE_CELLS];
 };
 
-/* The cells of a header, of a transaction's head and of a task's body; a task has the one time in each of its modes. */
+/* The cells of a header, of a transaction and of a task, which has the one time in each of its modes. */
 static void header(struct table *table, uint32_t frame, uint32_t transactions, uint32_t tasks) {
-    const uint32_t cells[] = {1, frame, transactions, tasks, 0};
-    memcpy(table->cells, cells, sizeof cells);
+    table->cells[SUMPCANDLE_EDITION_CELL] = 1;
+    table->cells[SUMPCANDLE_FRAME_CELL] = frame;
+    table->cells[SUMPCANDLE_TRANSACTION_COUNT_CELL] = transactions;
+    table->cells[SUMPCANDLE_TASKS_IN_ALL_CELL] = tasks;
 }
 
 static void head(struct table *table, uint32_t v, uint32_t period, uint32_t modes, uint32_t first, uint32_t tasks) {
-    const uint32_t cells[] = {period, modes, first, tasks, 0};
-    memcpy(&table->cells[5 + 5 * v], cells, sizeof cells);
+    uint32_t *cells = &table->cells[sumpcandle_transaction_cell(v)];
+    cells[SUMPCANDLE_PERIOD_CELL] = period;
+    cells[SUMPCANDLE_MODE_COUNT_CELL] = modes;
+    cells[SUMPCANDLE_FIRST_TASK_CELL] = first;
+    cells[SUMPCANDLE_TASK_COUNT_CELL] = tasks;
 }
 
 static void task(struct table *table, uint32_t k, uint32_t v, uint32_t offset, uint32_t deadline, uint32_t priority,
                  uint32_t modes, uint32_t time) {
-    const uint32_t cells[] = {offset, 0, 0, deadline, priority, v};
-    memcpy(&table->cells[165 + 14 * k], cells, sizeof cells);
+    uint32_t *cells = &table->cells[sumpcandle_task_cell(k)];
+    cells[SUMPCANDLE_OFFSET_CELL] = offset;
+    cells[SUMPCANDLE_DEADLINE_CELL] = deadline;
+    cells[SUMPCANDLE_PRIORITY_CELL] = priority;
+    cells[SUMPCANDLE_OWNER_CELL] = v;
     for (uint32_t mode = 0; mode < modes; mode++) {
-        table->cells[165 + 14 * k + 6 + mode] = time;
+        cells[SUMPCANDLE_TIMES_CELL + mode] = time;
     }
 }
 
@@ -64,14 +72,14 @@ static void sample(struct table *table) {
     task(table, 2, 1, 0, 4, 1, 1, 2);
 }
 
-/* 32 transactions of 2 tasks in 8 modes: the longest image. */
+/* As many transactions as there may be, of 2 tasks in as many modes as there may be: the longest image. */
 static void longest(struct table *table) {
-    header(table, 40000, 32, 64);
-    for (uint32_t v = 0; v < 32; v++) {
+    header(table, 40000, SUMPCANDLE_TRANSACTIONS, 2 * SUMPCANDLE_TRANSACTIONS);
+    for (uint32_t v = 0; v < SUMPCANDLE_TRANSACTIONS; v++) {
         uint32_t period = v % 2 == 0 ? 20000 : 40000;
-        head(table, v, period, 8, 2 * v, 2);
-        task(table, 2 * v, v, 17 * v, period, 255 - v, 8, 300 + v);
-        task(table, 2 * v + 1, v, 9000 + v, period, 100 + v, 8, 200 + v);
+        head(table, v, period, SUMPCANDLE_MODES, 2 * v, 2);
+        task(table, 2 * v, v, 17 * v, period, 255 - v, SUMPCANDLE_MODES, 300 + v);
+        task(table, 2 * v + 1, v, 9000 + v, period, 100 + v, SUMPCANDLE_MODES, 200 + v);
     }
 }
 
@@ -83,16 +91,16 @@ static int differs(const struct table *table, const char *what) {
 /* Each side writes the table and reads it back, and a buffer too short is refused: all as it should be and alike. */
 static int is_otherwise(struct table *table) {
     for (int i = 0; i < SIDES; i++) {
-        uint64_t written = sides[i].write(table->cells, table->image[i], LONGEST);
+        uint64_t written = sides[i].write(table->cells, table->image[i], SUMPCANDLE_LONGEST);
         table->length = (size_t)written;
-        if (written == 0 || written > LONGEST) return differs(table, "a good table is refused");
-        if (sides[i].write(table->cells, table->image[i], table->length - 1) != (uint64_t)30 << 32)
+        if (written == 0 || written > SUMPCANDLE_LONGEST) return differs(table, "a good table is refused");
+        if (sides[i].write(table->cells, table->image[i], table->length - 1) != (uint64_t)SUMPCANDLE_BUFFER_SHORT << 32)
             return differs(table, "a buffer too short");
         if (sides[i].read(table->image[i], table->length, table->back[i]) != 0)
             return differs(table, "an image that was written is refused");
         if (memcmp(table->back[i], table->cells, sizeof table->cells) != 0) return differs(table, "the cells");
     }
-    return memcmp(table->image[0], table->image[1], LONGEST) != 0 ? differs(table, "the image") : 0;
+    return memcmp(table->image[0], table->image[1], SUMPCANDLE_LONGEST) != 0 ? differs(table, "the image") : 0;
 }
 
 static void read_often(struct table *table, int side) {

@@ -13,9 +13,10 @@
 
 #include "sumpcandle.h"
 
-enum { SIZE = 1 << 20, LONGEST = 8192, BUDGET = 2000, PATTERN = 0xA5 };
+/* One byte more than the longest image is enough to be refused as the whole file would be. */
+enum { SIZE = 1 << 20, ROOM = SUMPCANDLE_LONGEST + 1, BUDGET = 2000, PATTERN = 0xA5 };
 
-static uint8_t image[LONGEST], written[LONGEST];
+static uint8_t image[ROOM], written[SUMPCANDLE_LONGEST];
 static uint32_t cells[SUMPCANDLE_TABLE_CELLS];
 static size_t length;
 
@@ -28,7 +29,7 @@ static void *asks(void *task) {
         }
     }
     sumpcandle_read(image, length, cells);
-    sumpcandle_write(cells, written, LONGEST);
+    sumpcandle_write(cells, written, SUMPCANDLE_LONGEST);
     return task;
 }
 
@@ -62,7 +63,7 @@ int main(int count, char **arguments) {
             perror(arguments[i]);
             return 3;
         }
-        length = fread(image, 1, LONGEST, file);
+        length = fread(image, 1, ROOM, file);
         fclose(file);
         size_t now = used(stack, asks);
         most = now > most ? now : most;

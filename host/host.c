@@ -8,11 +8,11 @@
 
 enum { BUDGET = 1000000 };
 
-/* The longest image of edition 1 has 2,521 bytes. One byte more is enough to be refused as the whole file would be. */
-enum { LONGEST = 2522 };
+/* One byte more than the longest image is enough to be refused as the whole file would be. */
+enum { ROOM = SUMPCANDLE_LONGEST + 1 };
 
 int main(int count, char **arguments) {
-    static uint8_t image[LONGEST];
+    static uint8_t image[ROOM];
     if (count != 2) {
         fputs("usage: host FILE\n", stderr);
         return 3;
@@ -22,7 +22,7 @@ int main(int count, char **arguments) {
         perror(arguments[1]);
         return 3;
     }
-    size_t length = fread(image, 1, LONGEST, file);
+    size_t length = fread(image, 1, ROOM, file);
     if (ferror(file)) {
         perror(arguments[1]);
         return 3;

@@ -11,7 +11,8 @@
 
 #include "sumpcandle.h"
 
-enum { LONGEST = 4096, BEHIND = 16 };
+/* A buffer may be longer than any image. */
+enum { ROOM = 2 * SUMPCANDLE_LONGEST, BEHIND = 16 };
 
 /* The next number; 0 at the end of input. */
 static int next(uint32_t *number) {
@@ -32,7 +33,7 @@ static int trouble(const char *what) {
 
 int main(void) {
     static uint32_t cells[SUMPCANDLE_TABLE_CELLS], back[SUMPCANDLE_TABLE_CELLS + BEHIND];
-    static uint8_t buffer[LONGEST + BEHIND];
+    static uint8_t buffer[ROOM + BEHIND];
     uint32_t length;
     while (next(&length)) {
         for (size_t i = 0; i < SUMPCANDLE_TABLE_CELLS; i++) {
@@ -40,7 +41,7 @@ int main(void) {
                 return trouble("the stream ends inside a row");
             }
         }
-        if (length > LONGEST) {
+        if (length > ROOM) {
             return trouble("a buffer longer than there is room for");
         }
         for (uint32_t i = 0; i < length + BEHIND; i++) {

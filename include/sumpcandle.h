@@ -1,5 +1,12 @@
-/* Sumpcandle for a host in C: the worst-case response bound of one task of a bit-packed task table. One call reads the
-   image and answers for one task. */
+/* Sumpcandle for a host in C. Three calls: sumpcandle_response answers for one task of a bit-packed task table, the image,
+   with its worst-case response bound; sumpcandle_read gives the table of an image as a row of numbers, the cells;
+   sumpcandle_write makes the image of a table in cells.
+
+   For each of them the caller owes: the pointers are never NULL, also where `length` is 0, and point to as much memory as
+   the call names; image, cells and buffer of one call do not overlap; during the call nobody else writes them, nor reads what
+   the call writes. Any bytes and any numbers are allowed.
+
+   A call keeps nothing between calls and has no globals, so threads may call at the same time. It always returns. */
 
 #ifndef SUMPCANDLE_H
 #define SUMPCANDLE_H
@@ -17,28 +24,100 @@ extern "C" {
    the bound in ticks, from the task's event to its finish; with a refusal of the image its place, a bit position; else
    0.
 
-   The caller owes: `image` points to `length` bytes that do not change during the call. It is never NULL, also where
-   `length` is 0. Any bytes, any task number and any budget are allowed.
-
-   The call keeps nothing between calls and has no globals, so threads may call it at the same time. It always returns;
-   its time grows with the evaluations that it makes, at most `budget`, and with what one of them costs. */
+   `image` points to `length` bytes. The time of a call grows with the evaluations that it makes, at most `budget`, and with
+   what one of them costs. */
 uint64_t sumpcandle_response(const uint8_t *image, size_t length, uint32_t task, uint32_t budget);
 
-/* A table lent as a row of cells: 5 of the header, 5 of each of 32 transactions, 14 of each of 64 tasks. */
-#define SUMPCANDLE_TABLE_CELLS 1061
+/* The table of an image, into cells.
 
-/* The table of an image, into SUMPCANDLE_TABLE_CELLS cells. The answer is number * 2^32 + place: 0 where the image is
-   accepted, and then every cell is written; with a refusal, 1 to 11, the cells stay as they were. */
+   Upper 32 bits: 0, or a refusal, 1 to 11. Lower 32 bits: the place of the refusal, a bit position; else 0. With 0 every one
+   of the SUMPCANDLE_TABLE_CELLS cells is written, those beyond the table with 0. With a refusal every cell stays as it was.
+
+   `image` points to `length` bytes, `cells` to SUMPCANDLE_TABLE_CELLS cells, at an address that is a multiple of 4. */
 uint64_t sumpcandle_read(const uint8_t *image, size_t length, uint32_t *cells);
 
-/* The image of the table in SUMPCANDLE_TABLE_CELLS cells, into a buffer of `length` bytes. The answer is the image's
-   length where it is written, and then the bytes beyond it stay as they were; else number * 2^32 + place with a refusal,
-   2 to 9, 29 or 30, and then every byte of the buffer stays as it was. */
+/* The image of the table in the cells, into a buffer.
+
+   Upper 32 bits: 0, or a refusal, 2 to 9, 29 or 30. Lower 32 bits: the length of the image in bytes; with a refusal its place,
+   the bit position that the field would have had, and 0 with 30. With 0 the bytes of the buffer beyond the image stay as they
+   were. With a refusal every byte of the buffer stays as it was.
+
+   The first fault in the order of the image counts. Of one field, 29 comes before its other rule. 30 comes after all others.
+
+   What was written is accepted by sumpcandle_read, which gives the same table; what was read is written as the same bytes.
+
+   `cells` points to SUMPCANDLE_TABLE_CELLS cells, at an address that is a multiple of 4, `buffer` to `length` bytes.
+   SUMPCANDLE_LONGEST of them are enough for any table. */
 uint64_t sumpcandle_write(const uint32_t *cells, uint8_t *buffer, size_t length);
+
+/* The longest image, in bytes. */
+#define SUMPCANDLE_LONGEST 2521
 
 /* Bytes of stack to leave for a call, beside what a thread needs of its own. Not proved: bench/stack.c measured 32,432 over the
    samples, and the gate fails where it measures more than this. */
 #define SUMPCANDLE_STACK 36864
+
+/* The cells of a table: those of the header, then those of each transaction, then those of each task, in image order. There
+   is room for SUMPCANDLE_TRANSACTIONS transactions and SUMPCANDLE_TASKS tasks, each with a time for SUMPCANDLE_MODES modes.
+
+   The counts say which of them the table has: the transactions from number 0 on, and the tasks from number 0 on, first those
+   of transaction 0, then those of transaction 1, and so on. They leave no gap: to add a task in between, move those behind it.
+
+   Three cells follow from others: SUMPCANDLE_TASKS_IN_ALL_CELL, SUMPCANDLE_FIRST_TASK_CELL and SUMPCANDLE_OWNER_CELL.
+   sumpcandle_read fills them. sumpcandle_write does not look at them, nor at spare cells, times beyond the mode count,
+   transactions and tasks beyond the counts. Leave 0 in spare cells: a later version may use them.
+
+   Later versions may raise SUMPCANDLE_TRANSACTIONS and SUMPCANDLE_TASKS, and with them SUMPCANDLE_TASKS_START,
+   SUMPCANDLE_TABLE_CELLS and SUMPCANDLE_LONGEST. How many cells a group has and the place of each field in its group stay. So
+   a host that uses these names needs only to be compiled again. */
+#define SUMPCANDLE_TRANSACTIONS 32
+#define SUMPCANDLE_TASKS 64
+#define SUMPCANDLE_MODES 8
+
+/* How many cells each group has; where the transactions and the tasks start; and all of them. */
+#define SUMPCANDLE_HEADER_CELLS 5
+#define SUMPCANDLE_TRANSACTION_CELLS 5
+#define SUMPCANDLE_TASK_CELLS 14
+#define SUMPCANDLE_TRANSACTIONS_START SUMPCANDLE_HEADER_CELLS
+#define SUMPCANDLE_TASKS_START (SUMPCANDLE_TRANSACTIONS_START + SUMPCANDLE_TRANSACTIONS * SUMPCANDLE_TRANSACTION_CELLS)
+#define SUMPCANDLE_TABLE_CELLS (SUMPCANDLE_TASKS_START + SUMPCANDLE_TASKS * SUMPCANDLE_TASK_CELLS)
+
+/* The header. The fifth cell is spare. */
+enum {
+    SUMPCANDLE_EDITION_CELL = 0,
+    SUMPCANDLE_FRAME_CELL = 1, /* the major frame, in ticks, as all times are */
+    SUMPCANDLE_TRANSACTION_COUNT_CELL = 2,
+    SUMPCANDLE_TASKS_IN_ALL_CELL = 3
+};
+
+/* A transaction, from sumpcandle_transaction_cell on. The fifth cell is spare. */
+enum {
+    SUMPCANDLE_PERIOD_CELL = 0,
+    SUMPCANDLE_MODE_COUNT_CELL = 1,
+    SUMPCANDLE_FIRST_TASK_CELL = 2, /* the number of its first task */
+    SUMPCANDLE_TASK_COUNT_CELL = 3
+};
+
+/* A task, from sumpcandle_task_cell on. */
+enum {
+    SUMPCANDLE_OFFSET_CELL = 0,
+    SUMPCANDLE_JITTER_CELL = 1,
+    SUMPCANDLE_BLOCKING_CELL = 2,
+    SUMPCANDLE_DEADLINE_CELL = 3,
+    SUMPCANDLE_PRIORITY_CELL = 4,
+    SUMPCANDLE_OWNER_CELL = 5, /* the number of its transaction */
+    SUMPCANDLE_TIMES_CELL = 6  /* the time in mode 0; then those in the other modes */
+};
+
+/* The first cell of a transaction and of a task, by its number, from 0 in image order. So the deadline of task 2 is
+   cells[sumpcandle_task_cell(2) + SUMPCANDLE_DEADLINE_CELL]. */
+static inline size_t sumpcandle_transaction_cell(uint32_t transaction) {
+    return SUMPCANDLE_TRANSACTIONS_START + (size_t)transaction * SUMPCANDLE_TRANSACTION_CELLS;
+}
+
+static inline size_t sumpcandle_task_cell(uint32_t task) {
+    return SUMPCANDLE_TASKS_START + (size_t)task * SUMPCANDLE_TASK_CELLS;
+}
 
 /* Codes: the image is good and has that task. With a bound, every job of the task has finished when that many ticks have
    passed since its event, in every legal run. That a run is late is never said: a bound may be above what any run
@@ -51,7 +130,8 @@ enum {
     SUMPCANDLE_BUDGET_SPENT = 23  /* not decided: one more evaluation was due */
 };
 
-/* Refusals: the first fault of the image, or no such task. */
+/* Refusals: the first fault of the image, or of the table to be written; or no such task. 2 to 9 are the same in an image and
+   in a table, at the same place. */
 enum {
     SUMPCANDLE_CUT = 1,               /* the image ends inside a field */
     SUMPCANDLE_EDITION = 2,           /* edition is not 1 */
@@ -64,16 +144,18 @@ enum {
     SUMPCANDLE_NO_TIME = 9,           /* a task with time 0 in every mode */
     SUMPCANDLE_PADDING = 10,          /* a padding bit is 1 */
     SUMPCANDLE_BYTES_FOLLOW = 11,     /* bytes follow the table */
-    SUMPCANDLE_NO_TASK = 13           /* the image is good and has no task of that number */
+    SUMPCANDLE_NO_TASK = 13,          /* the image is good and has no task of that number */
+    SUMPCANDLE_TOO_LARGE = 29,        /* a number of the table is too large for its field */
+    SUMPCANDLE_BUFFER_SHORT = 30      /* the table is good, and its image is longer than the buffer */
 };
 
-/* The upper half of an answer: a code or a refusal. */
+/* The upper half of an answer: a code or a refusal, or 0. */
 static inline uint32_t sumpcandle_number(uint64_t answer) { return (uint32_t)(answer >> 32); }
 
-/* The lower half of an answer: a bound or a place. */
+/* The lower half of an answer: a bound, a length or a place. */
 static inline uint32_t sumpcandle_value(uint64_t answer) { return (uint32_t)answer; }
 
-/* Whether an answer has a code, and not a refusal: 0 or 20 to 23. */
+/* Whether an answer of sumpcandle_response has a code, and not a refusal: 0 or 20 to 23. */
 static inline int sumpcandle_is_code(uint64_t answer) {
     uint32_t number = sumpcandle_number(answer);
     return number == SUMPCANDLE_IN_TIME || (SUMPCANDLE_LATE <= number && number <= SUMPCANDLE_BUDGET_SPENT);
