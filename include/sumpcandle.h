@@ -31,7 +31,8 @@ uint64_t sumpcandle_response(const uint8_t *image, size_t length, uint32_t task,
 /* The table of an image, into cells.
 
    Upper 32 bits: 0, or a refusal, 1 to 11. Lower 32 bits: the place of the refusal, a bit position; else 0. With 0 every one
-   of the SUMPCANDLE_TABLE_CELLS cells is written, those beyond the table with 0. With a refusal every cell stays as it was.
+   of the SUMPCANDLE_TABLE_CELLS cells is written, those that the table does not use with 0. With a refusal every cell stays as
+   it was.
 
    `image` points to `length` bytes, `cells` to SUMPCANDLE_TABLE_CELLS cells, at an address that is a multiple of 4. */
 uint64_t sumpcandle_read(const uint8_t *image, size_t length, uint32_t *cells);
@@ -42,7 +43,8 @@ uint64_t sumpcandle_read(const uint8_t *image, size_t length, uint32_t *cells);
    the bit position that the field would have had, and 0 with 30. With 0 the bytes of the buffer beyond the image stay as they
    were. With a refusal every byte of the buffer stays as it was.
 
-   The first fault in the order of the image counts. Of one field, 29 comes before its other rule. 30 comes after all others.
+   The first fault in the order of the image counts. Of one field, 29 comes before its other rule; of a task, 29 of any time
+   comes before 9. 30 comes after all others.
 
    What was written is accepted by sumpcandle_read, which gives the same table; what was read is written as the same bytes.
 
@@ -59,6 +61,7 @@ uint64_t sumpcandle_write(const uint32_t *cells, uint8_t *buffer, size_t length)
 
 /* The cells of a table: those of the header, then those of each transaction, then those of each task, in image order. There
    is room for SUMPCANDLE_TRANSACTIONS transactions and SUMPCANDLE_TASKS tasks, each with a time for SUMPCANDLE_MODES modes.
+   Ticks are at most 16,777,215, but for a deadline's.
 
    The counts say which of them the table has: the transactions from number 0 on, and the tasks from number 0 on, first those
    of transaction 0, then those of transaction 1, and so on. They leave no gap: to add a task in between, move those behind it.
@@ -85,7 +88,7 @@ uint64_t sumpcandle_write(const uint32_t *cells, uint8_t *buffer, size_t length)
 /* The header. The fifth cell is spare. */
 enum {
     SUMPCANDLE_EDITION_CELL = 0,
-    SUMPCANDLE_FRAME_CELL = 1, /* the major frame, in ticks, as all times are */
+    SUMPCANDLE_FRAME_CELL = 1, /* the major frame */
     SUMPCANDLE_TRANSACTION_COUNT_CELL = 2,
     SUMPCANDLE_TASKS_IN_ALL_CELL = 3
 };
@@ -103,10 +106,10 @@ enum {
     SUMPCANDLE_OFFSET_CELL = 0,
     SUMPCANDLE_JITTER_CELL = 1,
     SUMPCANDLE_BLOCKING_CELL = 2,
-    SUMPCANDLE_DEADLINE_CELL = 3,
-    SUMPCANDLE_PRIORITY_CELL = 4,
-    SUMPCANDLE_OWNER_CELL = 5, /* the number of its transaction */
-    SUMPCANDLE_TIMES_CELL = 6  /* the time in mode 0; then those in the other modes */
+    SUMPCANDLE_DEADLINE_CELL = 3, /* at most 67,108,863 */
+    SUMPCANDLE_PRIORITY_CELL = 4, /* at most 255; a greater one is more urgent */
+    SUMPCANDLE_OWNER_CELL = 5,    /* the number of its transaction */
+    SUMPCANDLE_TIMES_CELL = 6     /* the execution time in mode 0; behind it those in the other modes */
 };
 
 /* The first cell of a transaction and of a task, by its number, from 0 in image order. So the deadline of task 2 is
