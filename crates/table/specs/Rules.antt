@@ -1,6 +1,6 @@
--- A table's rules, once: they go over its fields in image order and ask of each first whether it is there and then its rule.
--- Who asks brings a look at the fields, the way findings are joined and the limits; the reader of an image brings what its bits
--- say, the first finding and document 01's limits.
+-- A table's rules, once: they go over its fields in image order and ask of each first what is found of the field itself and then its
+-- rule. Who asks brings a look at the fields, the way findings are joined and the limits; the reader of an image brings what its
+-- bits say, who writes a table the table's own numbers, and both the first finding and document 01's limits.
 use mathlib.Core.Bool.{Bool, _&&_}
 use Prim.Native.Nat.{ℕ, _+_, _%_}
 use lib.Dec.{leb, eqb}
@@ -16,7 +16,7 @@ use Rattle.table.specs.Fields.HeadField.{period, modes, tasks}
 use Rattle.table.specs.Fields.TaskField.{offset, jitter, blocking, deadline, priority, time}
 use Rattle.table.specs.Fields.Field.{header, head, task}
 
--- of each field its own finding, where it is not there; its place; and its number
+-- of each field its own finding (the image ends inside it; its number is too large for it); its place; and its number
 pub record Look (F : Type 0) : Type 0 where
   pub finding : F → Answer
   pub place : F → ℕ
