@@ -1,10 +1,10 @@
 -- What the fill leaves, group by group, is the row of the table that the image says.
-use mathlib.Core.Path.{_≡_, refl, sym, _∙_}
+use mathlib.Core.Path.{_≡_, refl, sym, ap, _∙_}
 use mathlib.Core.List.{List, [], _∷_, _++_}
 use Prim.Native.Nat.{ℕ, _*_, _≤_, _<_}
 use native.Mathlib.Omega.{arith}
 use lib.ListN.{length}
-use lib.Seq.{sets}
+use lib.Seq.{sets, length-sets}
 use Rattle.table.specs.Table.{Table, transactions, transaction, tasks, task}
 use Rattle.table.specs.Limits.{transactionsMost, tasksInAll}
 use Rattle.table.specs.Number.{before}
@@ -12,9 +12,9 @@ use Rattle.table.specs.Lists.{joined, padded}
 use Rattle.format.specs.Places.{start}
 use Rattle.format.specs.Said.{editionIn, frameIn, countIn, tasksIn, tableIn, tasksBefore}
 use Rattle.row.specs.Row.{headerCells, transactionCells, taskCells, tasksCell, rowCells, ofTransaction, ofTask, ofHeader, rowOf, emptyRow}
-use Rattle.image.specs.Fill.{tasksCells, headsIn, ofTasksIn, everyTaskIn}
+use Rattle.image.specs.Fill.{tasksCells, headsIn, ofTasksIn, everyTaskIn, filledOver}
 use Rattle.format.specs.Fault.{IsAccepted}
-use Rattle.table.proofs.Lists.{joined-same, length-padded, padded-again, sets-padded}
+use Rattle.table.proofs.Lists.{joined-same, length-padded, padded-again, sets-padded, sets-within}
 use Rattle.format.proofs.Accepted.{header, few-tasks}
 use Rattle.image.proofs.Cells.{length-heads, length-every}
 use Rattle.format.proofs.Said.{said-edition, said-frame, said-transactions, said-transaction, said-tasks, said-task, said-before, said-in-all}
@@ -77,20 +77,38 @@ module _ (image : List ℕ) where
   unfolding ofHeader
   said-header = cc (said-edition image, said-frame image, said-transactions image, said-in-all image)
 
-  pub filled :
-      IsAccepted image
-      → sets (sets (sets emptyRow headerCells (headsIn image (countIn image))) tasksCell (everyTaskIn image (countIn image))) 0
-      (editionIn image ∷ frameIn image ∷ countIn image ∷ tasksBefore image (countIn image) ∷ 0 ∷ [])
-      ≡ rowOf tab
-  unfolding rowOf
-  filled ok =
-      let heads : length (headsIn image (countIn image)) ≤ transactionsMost * transactionCells =
-      rw (length-heads image (countIn image)) (omega (arith, header image ok .few)) in
-      let every : length (everyTaskIn image (countIn image)) ≤ tasksInAll * taskCells =
-      rw (length-every image (countIn image)) (omega (arith, few-tasks image ok)) in
-      row-filled (editionIn image) (frameIn image) (countIn image) (tasksBefore image (countIn image))
-      (headsIn image (countIn image))
-      (everyTaskIn image (countIn image))
-      heads
-      every
-      ∙ rw (said-heads, said-every, said-header)
+  module _ (ok : IsAccepted image) where
+    few-heads : length (headsIn image (countIn image)) ≤ transactionsMost * transactionCells
+    few-heads = rw (length-heads image (countIn image)) (omega (arith, header image ok .few))
+
+    few-every : length (everyTaskIn image (countIn image)) ≤ tasksInAll * taskCells
+    few-every = rw (length-every image (countIn image)) (omega (arith, few-tasks image ok))
+
+    -- into a row of zeros
+    pub filled : filledOver image emptyRow ≡ rowOf tab
+    unfolding rowOf filledOver
+    filled =
+        row-filled (editionIn image) (frameIn image) (countIn image) (tasksBefore image (countIn image))
+        (headsIn image (countIn image))
+        (everyTaskIn image (countIn image))
+        few-heads
+        few-every
+        ∙ rw (said-heads, said-every, said-header)
+
+    -- into cells whose first are zeros, as many as the row has
+    pub filled-over : (cells : List ℕ) → filledOver image (sets cells 0 emptyRow) ≡ sets cells 0 (rowOf tab)
+    unfolding filledOver padded
+    filled-over cells =
+        let heads = headsIn image (countIn image) in
+        let every = everyTaskIn image (countIn image) in
+        let long : length emptyRow ≡ rowCells = length-padded rowCells [] (omega arith) in
+        let one = sets emptyRow headerCells heads in
+        let two = sets one tasksCell every in
+        let one-long : length one ≡ rowCells = length-sets emptyRow headerCells heads ∙ long in
+        let two-long : length two ≡ rowCells = length-sets one tasksCell every ∙ one-long in
+        rw (
+          sets-within heads emptyRow cells 0 headerCells (omega (arith, few-heads)),
+          sets-within every one cells 0 tasksCell (omega (arith, few-every)),
+          sets-within (editionIn image ∷ frameIn image ∷ countIn image ∷ tasksBefore image (countIn image) ∷ 0 ∷ []) two cells 0 0 (omega arith),
+        )
+        (ap (λ (l : List ℕ). sets cells 0 l) filled)

@@ -1,10 +1,11 @@
 -- The cells of an image's transactions and tasks, by their places in the image: what the fill writes, group by group.
-use mathlib.Core.List.{List}
+use mathlib.Core.List.{List, [], _∷_}
 use Prim.Native.Nat.{ℕ, _+_, _*_}
+use lib.Seq.{sets}
 use Rattle.table.specs.Lists.{joined}
 use Rattle.format.specs.Places.{headWidth, taskWidth, start}
-use Rattle.format.specs.Said.{modesIn, tasksIn, taskIn, transactionIn, tasksBefore}
-use Rattle.row.specs.Row.{ofTransaction, ofTask}
+use Rattle.format.specs.Said.{editionIn, frameIn, countIn, modesIn, tasksIn, taskIn, transactionIn, tasksBefore}
+use Rattle.row.specs.Row.{headerCells, tasksCell, ofTransaction, ofTask}
 
 -- n tasks of transaction u, of m modes each, the first at q
 unfoldable pub tasksCells : List ℕ → ℕ → ℕ → ℕ → ℕ → List ℕ
@@ -21,3 +22,9 @@ ofTasksIn image p u = tasksCells image (modesIn image p) (p + headWidth) u (task
 -- the tasks of the first n transactions
 unfoldable pub everyTaskIn : List ℕ → ℕ → List ℕ
 everyTaskIn image n = joined n (λ u. ofTasksIn image (start image u) u)
+
+-- cells with all of these stored, and the header last
+unfoldable pub filledOver : List ℕ → List ℕ → List ℕ
+filledOver image cells =
+    sets (sets (sets cells headerCells (headsIn image (countIn image))) tasksCell (everyTaskIn image (countIn image))) 0
+    (editionIn image ∷ frameIn image ∷ countIn image ∷ tasksBefore image (countIn image) ∷ 0 ∷ [])

@@ -1,4 +1,4 @@
-// The row of an accepted image: a fill that cannot fail, into a lent row that is all 0.
+// The row of an accepted image: a fill that cannot fail, into lent cells.
 use super::parts::body_at;
 use super::parts::head_at;
 use super::scan::end_of;
@@ -12,9 +12,9 @@ ghost use lib.Seq.{sets};
 ghost use Rattle.bits.specs.Bits.{valueAt};
 ghost use Rattle.table.specs.Limits.{timeWidth, modesMost};
 ghost use Rattle.table.specs.Lists.{listOf};
-ghost use Rattle.format.specs.Said.{countIn, taskIn, transactionIn, tableIn, tasksBefore};
-ghost use Rattle.row.specs.Row.{headerCells, transactionCells, taskCells, tasksCell, rowCells, ofTransaction, ofTask, rowOf, emptyRow};
-ghost use Rattle.image.specs.Fill.{tasksCells, headsIn, everyTaskIn};
+ghost use Rattle.format.specs.Said.{countIn, taskIn, transactionIn, tasksBefore};
+ghost use Rattle.row.specs.Row.{headerCells, transactionCells, taskCells, tasksCell, rowCells, ofTransaction, ofTask, emptyRow};
+ghost use Rattle.image.specs.Fill.{tasksCells, headsIn, everyTaskIn, filledOver};
 ghost use Rattle.format.specs.Fault.{IsAccepted};
 
 // The time of one of the modes that there may be, where the times of the first `modes` start at a bit position.
@@ -169,10 +169,20 @@ fn put_every_task(image: &[u8], cells: &mut [u32; Table::CELLS])
     }
 }
 
+// Every cell is 0.
+pub(crate) fn clear(cells: &mut [u32; Table::CELLS])
+    ensures { λ _. ⌜ now (cells .exit) ≡ sets (now (cells .entry)) 0 emptyRow ⌝ }
+{
+    let mut at: usize = 0;
+    while at < Table::CELLS {
+        cells[at] = 0;
+        at += 1;
+    }
+}
+
 pub(crate) fn fill(image: &[u8], cells: &mut [u32; Table::CELLS])
     requires { ⌜ IsAccepted (now image) ⌝ }
-    requires { ⌜ now cells ≡ emptyRow ⌝ }
-    ensures { λ _. ⌜ now (cells .exit) ≡ rowOf (tableIn (now (image .entry))) ⌝ }
+    ensures { λ _. ⌜ now (cells .exit) ≡ filledOver (now (image .entry)) (now (cells .entry)) ⌝ }
 {
     let edition = bits::value(image, 0, Table::EDITION_WIDTH);
     let frame = bits::value(image, Table::FRAME_AT, Table::FRAME_WIDTH);

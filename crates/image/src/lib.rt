@@ -7,7 +7,7 @@ use row::Transaction;
 ghost use mathlib.Core.Path.{_≡_};
 ghost use Rattle.format.specs.Fault.{imageFault};
 ghost use Rattle.format.specs.Places.{longestImage};
-ghost use Rattle.image.specs.Read.{rowFor};
+ghost use Rattle.image.specs.Read.{rowFor, rowOver};
 
 mod fill;
 mod parts;
@@ -45,4 +45,19 @@ pub fn read(image: &[u8]) -> Reading
         fill::fill(image, &mut table.cells);
     }
     Reading { answer, table }
+}
+
+// The same into lent cells, which stay as they were where the image is refused.
+pub fn read_into(image: &[u8], cells: &mut [u32; Table::CELLS]) -> Answer
+    ensures { λ r. ⌜ r ≡ imageFault (now (image .entry)) ⌝ }
+    ensures { λ _. ⌜ now (cells .exit) ≡ rowOver (imageFault (now (image .entry))) (now (image .entry)) (now (cells .entry)) ⌝ }
+{
+    let answer = scan::first_fault(image);
+    let sound = answer.is_accepted();
+    if sound {
+        fill::clear(cells);
+        fill::fill(image, cells);
+        return Answer::Accepted;
+    }
+    answer
 }

@@ -6,8 +6,8 @@ use native.Mathlib.Nat.{le-of-suc-le-suc, not-suc-le-zero, add-zero, add-suc, su
 use native.Mathlib.Decide.{decLt}
 use native.Mathlib.Numerals.{add-one}
 use native.Mathlib.Omega.{arith}
-use lib.ListN.{length, getD, drop, set, replicate, length-append, length-replicate, replicate-append-replicate, List·getD-append, List·getD-eq-default}
-use lib.Seq.{sets, sets-eq, take-append-seam, drop-append-add, getD-append-add}
+use lib.ListN.{length, getD, drop, set, replicate, length-append, length-set, length-replicate, replicate-append-replicate, List·getD-append, List·getD-eq-default}
+use lib.Seq.{sets, sets-eq, set-set, take-append-seam, drop-append-add, getD-append-add}
 use Rattle.table.specs.Lists.{listOf, joined, padded}
 
 -- ---- lists by their index
@@ -87,6 +87,36 @@ pub join-next :
     → sets (sets l i (joined k f)) (i + n) (f k) ≡ sets l i (joined (k + 1) f)
 unfolding joined
 join-next f l i k n long = rw (add-one k, joined, sets-append, long)
+
+-- stores into a list that is itself stored are stores into that list
+
+set-past : (l : List ℕ) (i j a b : ℕ) → i < j → set (set l j b) i a ≡ set (set l i a) j b
+set-past [] i j a b h = refl
+set-past (x ∷ xs) i zero a b h = absurd (omega arith)
+set-past (x ∷ xs) zero (suc j) a b h = refl
+set-past (x ∷ xs) (suc i) (suc j) a b h = ap (λ (l : List ℕ). x ∷ l) (set-past xs i j a b (omega arith))
+
+set-before : (vs l : List ℕ) (i j a : ℕ) → i < j → set (sets l j vs) i a ≡ sets (set l i a) j vs
+set-before [] l i j a h = refl
+set-before (v ∷ vs) l i j a h =
+    set-before vs (set l j v) i (suc j) a (omega arith) ∙ ap (λ (k : List ℕ). sets k (suc j) vs) (set-past l i j a v h)
+
+set-within : (row l : List ℕ) (j i a : ℕ) → i < length row → set (sets l j row) (j + i) a ≡ sets l j (set row i a)
+set-within [] l j i a h = absurd (omega arith)
+set-within (r ∷ rs) l j zero a h =
+    rw (add-zero j) (set-before rs (set l j r) j (suc j) a (omega arith) ∙ ap (λ (k : List ℕ). sets k (suc j) rs) (set-set l j r a))
+set-within (r ∷ rs) l j (suc i) a h = rw (add-suc j i, ← suc-add j i) (set-within rs (set l j r) (suc j) i a (omega arith))
+
+pub sets-within : (vs row l : List ℕ) (j i : ℕ) → i + length vs ≤ length row → sets (sets l j row) (j + i) vs ≡ sets l j (sets row i vs)
+sets-within [] row l j i h = refl
+sets-within (v ∷ vs) row l j i h =
+    rw (set-within row l j i v (omega arith), ← add-suc j i)
+    (sets-within vs (set row i v) l j (suc i) (rw (length-set row i v) (omega arith)))
+
+pub listOf-zeros : (n : ℕ) → listOf {A = ℕ} n (λ k. 0) ≡ replicate n 0
+unfolding listOf
+listOf-zeros zero = refl
+listOf-zeros (suc n) = ap (λ (l : List ℕ). 0 ∷ l) (listOf-zeros n)
 
 -- ---- a row that is filled from its front
 

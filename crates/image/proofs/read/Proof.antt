@@ -13,6 +13,7 @@ use Rattle.row.specs.Row.{emptyRow}
 use Rattle.format.specs.Fault.{IsAccepted}
 use Rattle.image.specs.Read.{rowFor}
 use Rattle.refusals.proofs.Findings.{accepted-is}
+use Rattle.image.proofs.Filled.{filled}
 use borrow.Author.Needs.{needs}
 use Rattle.image.proofs.read.Statement.{statement}
 use Rattle.image.proofs.read.Tie as tie
@@ -36,10 +37,14 @@ is-accepted-requires : tie.Need-is-accepted-requires
 is-accepted-requires c κs = search needs
 
 fill-requires : tie.Need-fill-requires
-fill-requires c κs = (accepted (c .before), c .before .before .before .empty .ensures)
+fill-requires c κs = accepted (c .before)
 
 returns : tie.Need-returns
-returns c = (c .before .before .before .before .before .first-fault .ensures, rw (accepted (c .before .before)) (c .fill .ensures))
+returns c =
+    let yes = accepted (c .before .before) in (
+      c .before .before .before .before .before .first-fault .ensures,
+      rw (yes, ← filled _ yes) (c .fill .ensures ∙ rw (c .before .before .before .before .empty .ensures)),
+    )
 
 returns-2 : tie.Need-returns-2
 returns-2 c =

@@ -1,6 +1,5 @@
--- `fill::fill` meets its contract: what the groups leave is the row of the table (`Filled`).
-use denote.Ref.{now}
-use Rattle.image.proofs.Filled.{filled}
+-- `fill::fill` meets its contract: the groups one after the other, and the header last.
+use Rattle.image.specs.Fill.{filledOver}
 use borrow.Author.Needs.{needs}
 use Rattle.image.proofs.fill.fill.Statement.{statement}
 use Rattle.image.proofs.fill.fill.Tie as tie
@@ -36,8 +35,8 @@ element-write-cells-5 : tie.Need-element-write-cells-5
 element-write-cells-5 c = search needs
 
 returns : tie.Need-returns
+unfolding filledOver
 returns c =
-    let image = now (c .before .before .before .before .before .before .before .before .args .image) in
     rw (
       c .put-every-task .ensures,
       c .before .before .put-heads .ensures .1,
@@ -45,9 +44,7 @@ returns c =
       c .before .before .before .before .value3 .ensures,
       c .before .before .before .before .before .value2 .ensures,
       c .before .before .before .before .before .before .value .ensures,
-      c .before .before .before .before .before .before .before .before .pre .1,
     )
-    (filled image (c .before .before .before .before .before .before .before .before .pre .0))
 
 pub fill-spec : {M : Type 1} → statement M
 fill-spec =

@@ -1,0 +1,65 @@
+-- `read_into` meets its contract: the cells are cleared and filled where the image is accepted, and are not touched elsewhere.
+use native.Mathlib.Omega.{arith}
+use mathlib.Core.Path.{_≡_, refl, sym, ap, _∙_}
+use mathlib.Core.Bool.{false}
+use mathlib.Core.List.{List}
+use Prim.Native.Nat.{ℕ}
+use denote.Ref.{now}
+use Rattle.refusals.specs.declared.Answer.{Answer}
+use Rattle.refusals.specs.declared.Answer.the-variants.{Accepted, Refused}
+use Rattle.refusals.specs.Answer.{isAccepted}
+use Rattle.refusals.proofs.Findings.{accepted-is}
+use Rattle.format.specs.Fault.{imageFault, IsAccepted}
+use Rattle.image.specs.Read.{rowOver}
+use Rattle.image.proofs.Filled.{filled-over}
+use borrow.Author.Needs.{needs}
+use Rattle.image.proofs.read_into.Statement.{statement}
+use Rattle.image.proofs.read_into.Tie as tie
+
+accepted : (c : tie.Then1) → IsAccepted (now (c .before .before .before .before .args .image))
+accepted c =
+    sym (c .before .before .first-fault .ensures)
+    ∙ accepted-is (c .before .before .first-fault .result) (sym (c .before .is-accepted .ensures) ∙ c .if1 .taken)
+
+untouched : (a : Answer) (image cells : List ℕ) → isAccepted a ≡ false → rowOver a image cells ≡ cells
+untouched Accepted image cells h = let z : _≡_ {A = ℕ} 0 1 = cc in absurd (omega arith)
+untouched (Refused r at) image cells h = refl
+
+first-fault-requires : tie.Need-first-fault-requires
+first-fault-requires c κs = search needs
+
+is-accepted-requires : tie.Need-is-accepted-requires
+is-accepted-requires c κs = search needs
+
+clear-requires : tie.Need-clear-requires
+clear-requires c κs = search needs
+
+fill-requires : tie.Need-fill-requires
+fill-requires c κs = accepted (c .before .before .before)
+
+returns : tie.Need-returns
+returns c =
+    let taken = c .before .before .before .before in
+    let yes = accepted taken in
+    let a = taken .before .before .before .before .args in
+    (sym yes, rw yes (c .fill .ensures ∙ rw (c .before .before .clear .ensures) (filled-over (now (a .image)) yes (now (a .cells)))))
+
+returns-2 : tie.Need-returns-2
+returns-2 c =
+    let fault = c .before .before .first-fault in
+    let a = c .before .before .before .before .args in (
+      fault .ensures,
+      sym (untouched (imageFault (now (a .image))) (now (a .image)) (now (a .cells))
+          (ap isAccepted (sym (fault .ensures)) ∙ sym (c .before .is-accepted .ensures) ∙ c .if1 .left)),
+    )
+
+pub read-into-spec : {M : Type 1} → statement M
+read-into-spec =
+    tie.close
+    (tie.spec
+    first-fault-requires
+    is-accepted-requires
+    clear-requires
+    fill-requires
+    returns
+    returns-2)
