@@ -55,9 +55,9 @@ uint64_t sumpcandle_write(const uint32_t *cells, uint8_t *buffer, size_t length)
 /* The longest image, in bytes. */
 #define SUMPCANDLE_LONGEST 2521
 
-/* Bytes of stack to leave for a call, beside what a thread needs of its own. Not proved: bench/stack.c measured 37,232 over the
+/* Bytes of stack to leave for a call, beside what a thread needs of its own. Not proved: bench/stack.c measured 32,304 over the
    samples, and the gate fails where it measures more than this. */
-#define SUMPCANDLE_STACK 40960
+#define SUMPCANDLE_STACK 36864
 
 /* The cells of a table: those of the header, then those of each transaction, then those of each task, in image order. There
    is room for SUMPCANDLE_TRANSACTIONS transactions and SUMPCANDLE_TASKS tasks, each with a time for SUMPCANDLE_MODES modes.
