@@ -9,6 +9,7 @@ use lib.ListN.{length, length-append, length-set}
 use lib.Pow.{shr-shr}
 use Rattle.bits.specs.Bits.{fieldBits}
 use Rattle.bits.specs.Put.{bitPut, bitsPut}
+use Rattle.bits.proofs.Cases
 
 -- two lists of bits put together are the second put behind the first
 pub put-append : (bytes : List ℕ) (p : ℕ) (xs ys : List ℕ) → bitsPut bytes p (xs ++ ys) ≡ bitsPut (bitsPut bytes p xs) (p + length xs) ys
