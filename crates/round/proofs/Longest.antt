@@ -7,7 +7,7 @@ use lib.Dec.{lit<, lit≤}
 use lib.ListN.{length}
 use Rattle.table.specs.Sum.{sum}
 use Rattle.table.specs.Lists.{listOf}
-use Rattle.table.specs.Limits.{transactionsMost, modesMost}
+use Rattle.table.specs.Limits.{modesMost}
 use Rattle.table.specs.Table.{transactions, transaction, modes, tasks, noTask, noTransaction}
 use Rattle.table.specs.Number.{before, inAll}
 use Rattle.table.specs.Kept.{Kept, KeptTransaction, KeptTask}
@@ -46,7 +46,7 @@ full-transaction =
       fewModes = lit≤ tt;
       someTask = lit≤ tt;
       fewTasks = lit≤ tt;
-      each = λ j h. rw (getD-listOf 2 (λ i. fullestTask) j noTask h) full-task;
+      each = λ j h. rw (getD-listOf _ (λ i. fullestTask) j noTask h) full-task;
     }
 
 full-kept : Kept fullest
@@ -59,7 +59,7 @@ full-kept =
       someTransaction = lit≤ tt;
       fewTransactions = lit≤ tt;
       fewTasks = lit≤ tt;
-      each = λ u h. rw (getD-listOf transactionsMost (λ v. fullestTransaction) u noTransaction h) full-transaction;
+      each = λ u h. rw (getD-listOf _ (λ v. fullestTransaction) u noTransaction h) full-transaction;
     }
 
 full-end : startOf fullest (transactions fullest) ≡ 20_162
