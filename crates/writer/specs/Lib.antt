@@ -1,3 +1,4 @@
 pub mod Scan
 pub mod Parts
 pub mod Write
+pub mod Cases
