@@ -1,1 +1,2 @@
 pub mod Editor
+pub mod Cases

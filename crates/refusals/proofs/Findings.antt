@@ -19,6 +19,11 @@ pub accepted-is : (a : Answer) → isAccepted a ≡ true → a ≡ Accepted
 accepted-is Accepted h = refl
 accepted-is (Refused r at) h = cc
 
+-- what goes by an answer is, of one that is not accepted, what it is of every refusal
+pub refused-gives : {A : Type 0} (g : Answer → A) (x : A) → ((r : Refusal) (at : ℕ) → g (Refused r at) ≡ x) → (a : Answer) → isAccepted a ≡ false → g a ≡ x
+refused-gives g x each Accepted h = let z : _≡_ {A = ℕ} 0 1 = cc in absurd (omega arith)
+refused-gives g x each (Refused r at) h = each r at
+
 -- the first k of n have a finding: it is that of all n
 pub found-stays : (n k : ℕ) (f : ℕ → Answer) → k ≤ n → isAccepted (firstOf k f) ≡ false → firstOf n f ≡ firstOf k f
 unfolding firstOf

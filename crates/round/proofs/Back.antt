@@ -3,10 +3,10 @@ use mathlib.Core.Path.{_≡_, refl, sym, ap, ap₂, _∙_}
 use mathlib.Core.List.{List, _++_}
 use Prim.Native.Nat.{ℕ, zero, suc, _+_, _*_, _≤_, _<_}
 use native.Mathlib.Omega.{arith}
-use lib.ListN.{length, length-append}
+use lib.ListN.{length, getD, length-append}
 use Rattle.bits.specs.Bits.{valueAt, fieldBits}
 use Rattle.table.specs.Table.{Table, IsTask, transactions, transaction, noTransaction, period, modes, tasks, task, noTask, offset, jitter, blocking, deadline, priority, time}
-use Rattle.table.specs.Limits.{editionWidth, frameWidth, transactionsWidth, periodWidth, modesWidth, tasksWidth, offsetWidth, jitterWidth, blockingWidth, deadlineWidth, priorityWidth}
+use Rattle.table.specs.Limits.{editionWidth, frameWidth, transactionsWidth, periodWidth, modesWidth, tasksWidth, offsetWidth, jitterWidth, blockingWidth, deadlineWidth, priorityWidth, timeWidth}
 use Rattle.table.specs.Fields.{HeaderField, HeadField, TaskField, Field, width, numberIn, IsField, Fits, Timed}
 use Rattle.table.specs.Lists.{joined}
 use Rattle.row.proofs.Rows.{listed}
@@ -17,7 +17,7 @@ use Rattle.format.specs.Image.{taskBits, transactionBits, tableBits, imageOf}
 use Rattle.format.specs.Write.{startOf, placeOf}
 use Rattle.round.proofs.Bits.{table-bits, image-length}
 use Rattle.bits.proofs.Put.{length-field}
-use Rattle.round.proofs.Places.{timeBits, length-times, length-tasks, length-front}
+use Rattle.round.proofs.Places.{length-fields, timeBits, length-tasks, length-front}
 use Rattle.round.proofs.Stands.{Stands, all-stand, first-part, second-part, joined-part, three, first-of, second-of, third-of, rest-of, field-back}
 
 -- ---- every field of a table stands among its bits
@@ -101,7 +101,7 @@ module _ (tab : Table) (timed : Timed tab) where
     task-field-stands TaskField.priority has =
         simp (length-append, length-field) at (second-part (early ++ due) urgent (first-part (early ++ due ++ urgent) timesBits whole))
     task-field-stands (TaskField.time m) has =
-        rw (length-times (task tab u j) m) at
+        rw (length-fields timeWidth m (λ i. getD (task tab u j .times) i 0)) at
         (joined-part (length (task tab u j .times)) m (timeBits (task tab u j)) (rw (timed .times u j is) (has .1)) times-stand)
 
   pub field-stands : (f : Field) → IsField tab f → Stands (tableBits tab) (placeOf tab f) (fieldBits (width f) (numberIn tab f))

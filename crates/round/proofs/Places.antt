@@ -18,18 +18,19 @@ use Rattle.format.specs.Image.{taskBits, transactionBits, tableBits, imageOf}
 use Rattle.format.specs.Write.{startOf}
 use Rattle.round.proofs.Bits.{image-length}
 
+-- n fields of one width
+pub length-fields : (w n : ℕ) (f : ℕ → ℕ) → length (joined n (λ k. fieldBits w (f k))) ≡ n * w
+length-fields w n f = length-joined n w _ (λ k h. length-field w (f k))
+
 -- ---- a task
 
 module _ (t : Task) where
   abbrev pub timeBits : ℕ → List ℕ
   timeBits m = fieldBits timeWidth (getD (t .times) m 0)
 
-  pub length-times : (m : ℕ) → length (joined m timeBits) ≡ m * timeWidth
-  length-times m = length-joined m timeWidth timeBits (λ k h. length-field timeWidth _)
-
   pub length-task : length (taskBits t) ≡ taskWidth (length (t .times))
   unfolding taskBits
-  length-task = simp (length-append, length-field, length-times)
+  length-task = simp (length-append, length-field, length-fields)
 
 -- ---- a transaction whose tasks have one time for each mode
 

@@ -43,27 +43,24 @@ pub put-joined :
 unfolding joined
 put-joined bytes p k n f long = rw (add-one k) (behind bytes p n (joined k f) (f k) long)
 
+-- two fields, and three, put one behind the other
+
+pub two-laid :
+    (bytes : List ℕ) (at v w x y : ℕ)
+    → bitsPut (bitsPut bytes at (fieldBits v x)) (at + v) (fieldBits w y) ≡ bitsPut bytes at (fieldBits v x ++ fieldBits w y)
+two-laid bytes at v w x y = sym (simp (put-append, length-field))
+
+pub three-laid :
+    (bytes : List ℕ) (at u v w x y z : ℕ)
+    → bitsPut (bitsPut (bitsPut bytes at (fieldBits u x)) (at + u) (fieldBits v y)) (at + (u + v)) (fieldBits w z)
+    ≡ bitsPut bytes at (fieldBits u x ++ fieldBits v y ++ fieldBits w z)
+three-laid bytes at u v w x y z = sym (simp (put-append, length-append, length-field))
+
 -- ---- the times of a task, a task, and the tasks of a transaction
 
 module _ (row : List ℕ) where
   abbrev pub timeBits : (k m : ℕ) → List ℕ
   timeBits k m = fieldBits timeWidth (getD row (taskCell k + (timesCell + m)) 0)
-
-  pub length-times : (k m : ℕ) → length (joined m (timeBits k)) ≡ m * timeWidth
-  length-times k m = length-joined m timeWidth (timeBits k) (λ i h. length-field timeWidth _)
-
-  -- two fields, and three, put one behind the other
-
-  pub two-laid :
-      (bytes : List ℕ) (at v w x y : ℕ)
-      → bitsPut (bitsPut bytes at (fieldBits v x)) (at + v) (fieldBits w y) ≡ bitsPut bytes at (fieldBits v x ++ fieldBits w y)
-  two-laid bytes at v w x y = sym (simp (put-append, length-field))
-
-  pub three-laid :
-      (bytes : List ℕ) (at u v w x y z : ℕ)
-      → bitsPut (bitsPut (bitsPut bytes at (fieldBits u x)) (at + u) (fieldBits v y)) (at + (u + v)) (fieldBits w z)
-      ≡ bitsPut bytes at (fieldBits u x ++ fieldBits v y ++ fieldBits w z)
-  three-laid bytes at u v w x y z = sym (simp (put-append, length-append, length-field))
 
   length-first : (k : ℕ) → length (frontBits row k) ≡ 72
   unfolding frontBits

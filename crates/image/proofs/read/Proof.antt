@@ -1,18 +1,11 @@
 -- `read` meets its contract: the row is filled where the image is accepted, and is the empty row elsewhere.
-use native.Mathlib.Omega.{arith}
 use mathlib.Core.Path.{_≡_, refl, sym, ap, _∙_}
-use mathlib.Core.Bool.{false}
-use mathlib.Core.List.{List}
-use Prim.Native.Nat.{ℕ}
 use denote.Ref.{now}
-use Rattle.refusals.specs.declared.Answer.{Answer}
-use Rattle.refusals.specs.declared.Answer.the-variants.{Accepted, Refused}
 use Rattle.refusals.specs.Answer.{isAccepted}
-use Rattle.format.specs.Fault.{imageFault}
+use Rattle.format.specs.Fault.{imageFault, IsAccepted}
 use Rattle.row.specs.Row.{emptyRow}
-use Rattle.format.specs.Fault.{IsAccepted}
 use Rattle.image.specs.Read.{rowFor}
-use Rattle.refusals.proofs.Findings.{accepted-is}
+use Rattle.refusals.proofs.Findings.{accepted-is, refused-gives}
 use Rattle.image.proofs.Filled.{filled}
 use borrow.Author.Needs.{needs}
 use Rattle.image.proofs.read.Statement.{statement}
@@ -22,10 +15,6 @@ accepted : (c : tie.Then1) → IsAccepted (now (c .before .before .before .befor
 accepted c =
     sym (c .before .before .before .first-fault .ensures)
     ∙ accepted-is (c .before .before .before .first-fault .result) (sym (c .before .is-accepted .ensures) ∙ c .if1 .taken)
-
-row-refused : (a : Answer) (image : List ℕ) → isAccepted a ≡ false → rowFor a image ≡ emptyRow
-row-refused Accepted image h = let z : _≡_ {A = ℕ} 0 1 = cc in absurd (omega arith)
-row-refused (Refused r at) image h = refl
 
 first-fault-requires : tie.Need-first-fault-requires
 first-fault-requires c κs = search needs
@@ -51,7 +40,7 @@ returns-2 c =
     let fault = c .before .before .before .first-fault in (
       fault .ensures,
       c .before .before .empty .ensures
-          ∙ sym (row-refused (imageFault (now (c .before .before .before .before .before .args .image))) _
+          ∙ sym (refused-gives (λ answer. rowFor answer (now (c .before .before .before .before .before .args .image))) emptyRow (λ r at. refl) (imageFault (now (c .before .before .before .before .before .args .image)))
           (ap isAccepted (sym (fault .ensures)) ∙ sym (c .before .is-accepted .ensures) ∙ c .if1 .left)),
     )
 

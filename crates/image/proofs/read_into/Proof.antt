@@ -1,14 +1,8 @@
 -- `read_into` meets its contract: the cells are cleared and filled where the image is accepted, and are not touched elsewhere.
-use native.Mathlib.Omega.{arith}
 use mathlib.Core.Path.{_≡_, refl, sym, ap, _∙_}
-use mathlib.Core.Bool.{false}
-use mathlib.Core.List.{List}
-use Prim.Native.Nat.{ℕ}
 use denote.Ref.{now}
-use Rattle.refusals.specs.declared.Answer.{Answer}
-use Rattle.refusals.specs.declared.Answer.the-variants.{Accepted, Refused}
 use Rattle.refusals.specs.Answer.{isAccepted}
-use Rattle.refusals.proofs.Findings.{accepted-is}
+use Rattle.refusals.proofs.Findings.{accepted-is, refused-gives}
 use Rattle.format.specs.Fault.{imageFault, IsAccepted}
 use Rattle.image.specs.Read.{rowOver}
 use Rattle.image.proofs.Filled.{filled-over}
@@ -20,10 +14,6 @@ accepted : (c : tie.Then1) → IsAccepted (now (c .before .before .before .befor
 accepted c =
     sym (c .before .before .first-fault .ensures)
     ∙ accepted-is (c .before .before .first-fault .result) (sym (c .before .is-accepted .ensures) ∙ c .if1 .taken)
-
-untouched : (a : Answer) (image cells : List ℕ) → isAccepted a ≡ false → rowOver a image cells ≡ cells
-untouched Accepted image cells h = let z : _≡_ {A = ℕ} 0 1 = cc in absurd (omega arith)
-untouched (Refused r at) image cells h = refl
 
 first-fault-requires : tie.Need-first-fault-requires
 first-fault-requires c κs = search needs
@@ -49,7 +39,7 @@ returns-2 c =
     let fault = c .before .before .first-fault in
     let a = c .before .before .before .before .args in (
       fault .ensures,
-      sym (untouched (imageFault (now (a .image))) (now (a .image)) (now (a .cells))
+      sym (refused-gives (λ answer. rowOver answer (now (a .image)) (now (a .cells))) (now (a .cells)) (λ r at. refl) (imageFault (now (a .image)))
           (ap isAccepted (sym (fault .ensures)) ∙ sym (c .before .is-accepted .ensures) ∙ c .if1 .left)),
     )
 

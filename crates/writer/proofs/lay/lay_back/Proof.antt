@@ -43,7 +43,7 @@ returns c =
       body-cell row k deadlineCell (start .pre .0),
       body-cell row k priorityCell (start .pre .0),
     )
-    (two-laid row (now (start .args .buffer)) (start .args .at) 26 8 _ _)
+    (two-laid (now (start .args .buffer)) (start .args .at) 26 8 _ _)
 
 pub lay-back-spec : {M : Type 1} → statement M
 lay-back-spec =

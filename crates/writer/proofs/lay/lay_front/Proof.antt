@@ -59,7 +59,7 @@ returns c =
       body-cell row k jitterCell (start .pre .0),
       body-cell row k blockingCell (start .pre .0),
     )
-    (three-laid row (now (start .args .buffer)) (start .args .at) 24 24 24 _ _ _)
+    (three-laid (now (start .args .buffer)) (start .args .at) 24 24 24 _ _ _)
 
 pub lay-front-spec : {M : Type 1} → statement M
 lay-front-spec =

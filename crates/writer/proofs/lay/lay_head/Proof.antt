@@ -56,7 +56,7 @@ returns c =
       head-cell row u modesCell (start .pre .0),
       head-cell row u hasCell (start .pre .0),
     )
-    (three-laid row (now (start .args .buffer)) (start .args .at) 24 4 5 _ _ _)
+    (three-laid (now (start .args .buffer)) (start .args .at) 24 4 5 _ _ _)
 
 pub lay-head-spec : {M : Type 1} → statement M
 lay-head-spec =

@@ -43,7 +43,7 @@ returns c =
       first .put .ensures,
       first .before .edition .ensures,
     )
-    (three-laid (now (start .args .row)) (now (start .args .buffer)) 0 4 24 6 _ _ _)
+    (three-laid (now (start .args .buffer)) 0 4 24 6 _ _ _)
 
 pub lay-header-spec : {M : Type 1} → statement M
 lay-header-spec =

@@ -1,15 +1,17 @@
 -- `lay::lay_times` meets its contract. The invariant: the times of the first m modes are put.
 use mathlib.Core.Path.{_≡_, refl, ap, _∙_}
-use Prim.Native.Nat.{_-_, _*_, _≤_, zero-le}
+use Prim.Native.Nat.{_+_, _-_, _*_, _≤_, zero-le}
 use native.Mathlib.Omega.{arith}
-use lib.ListN.{length}
+use lib.ListN.{length, getD}
 use denote.Ref.{now}
 use Rattle.bits.specs.Put.{bitsPut}
 use Rattle.bits.proofs.Put.{length-put}
 use Rattle.table.specs.Limits.{timeWidth}
 use Rattle.table.specs.Lists.{joined}
 use Rattle.row.proofs.Readers.{time-cell}
-use Rattle.writer.proofs.Laid.{put-joined, timeBits, length-times}
+use Rattle.row.specs.Row.{taskCell, timesCell}
+use Rattle.round.proofs.Places.{length-fields}
+use Rattle.writer.proofs.Laid.{put-joined, timeBits}
 use Rattle.writer.proofs.lay.lay_times.Statement.{statement}
 use Rattle.writer.proofs.lay.lay_times.Tie as tie
 
@@ -51,7 +53,7 @@ loop-again c =
       omega arith,
       put .put .ensures
           ∙ rw (at-loop .loop .inv .1, time .time .ensures, time-cell (now (a .row)) (a .k) m (omega arith) (omega arith))
-          (put-joined (now (a .buffer)) (a .at) m (m * timeWidth) (timeBits (now (a .row)) (a .k)) (length-times (now (a .row)) (a .k) m)),
+          (put-joined (now (a .buffer)) (a .at) m (m * timeWidth) (timeBits (now (a .row)) (a .k)) (length-fields timeWidth m (λ i. getD (now (a .row)) (taskCell (a .k) + (timesCell + i)) 0))),
     )
 
 same-length : tie.Need-same-length Inv-loop μ-loop
