@@ -2,7 +2,7 @@
 -- answer is the answer of document 01, and no other is.
 use mathlib.Core.Path.{_≡_, refl, sym, ap, ap₂, _∙_, subst, subst₂}
 use mathlib.Core.List.{List}
-use Prim.Native.Nat.{ℕ, _+_, _≤_, _<_}
+use Prim.Native.Nat.{ℕ, _+_, _-_, _≤_, _<_}
 use native.Mathlib.Decide.{decLe}
 use native.Mathlib.Omega.{arith}
 use Rattle.table.specs.Table.{Table, IsTask}
@@ -11,16 +11,18 @@ use Rattle.table.specs.Kept.{Kept}
 use Rattle.periods.specs.Charge.{imposed}
 use Rattle.analysis.specs.Charge.{Later}
 use Rattle.analysis.specs.Bound.{lastJob, jobsTo, busy, Setting, Bound}
+use Rattle.analysis.specs.Who.{BoundBy}
 use Rattle.analysis.specs.Overload.{Overload, overload?}
-use Rattle.analysis.specs.Order.{Turn, walkOrder}
+use Rattle.analysis.specs.Order.{Turn, Source, walkOrder}
 use Rattle.analysis.specs.Needed.{JobChains, Outcome, bounded, pastHorizon, Needed}
-use Rattle.analysis.specs.Answer.{Answer, bound, overload, beyond, spent, Answers}
-use Rattle.analysis.specs.Walk.{answerOf, answerBy, answer, walkTurns}
+use Rattle.analysis.specs.Answer.{Named, named, Answer, bound, overload, beyond, spent, Answers}
+use Rattle.analysis.specs.Walk.{Best, nothing, answerOf, answerBy, answer, walkTurns}
 use Rattle.analysis.proofs.Chain.{chain-same}
 use Rattle.analysis.proofs.Order.{turn-setting}
 use Rattle.analysis.proofs.Charges.{Fair, imposed-fair}
 use Rattle.analysis.proofs.Walk.{TurnsWalked, TurnsEnd, turns-end, turns-enough, turns-short, turns-needed}
-use Rattle.analysis.proofs.Response.{bound-unique}
+use Rattle.analysis.proofs.Before.{source-orders}
+use Rattle.analysis.proofs.First.{first-unique, bestOf}
 use Rattle.analysis.proofs.Greatest.{walk-bound, walk-past}
 
 -- ---- the evaluations needed
@@ -53,19 +55,19 @@ module _ {tab : Table} {u a : ℕ} where
 -- Walks later tab u a budget x: the walk with that budget answers x, by its turns apart from any budget
 pub data Walks (later : Later) (tab : Table) (u a budget : ℕ) : Answer → Type 0 where
   overloaded : Overload tab u a → Walks later tab u a budget overload
-  short : {n b : ℕ} {o : Outcome} → ¬ (Overload tab u a) → TurnsWalked later tab u a (walkOrder tab u a) n b o → budget < n → Walks later tab u a budget (spent budget)
-  past : {n b : ℕ} → ¬ (Overload tab u a) → TurnsWalked later tab u a (walkOrder tab u a) n b pastHorizon → n ≤ budget → Walks later tab u a budget (beyond n)
-  kept : {n b : ℕ} → ¬ (Overload tab u a) → TurnsWalked later tab u a (walkOrder tab u a) n b bounded → n ≤ budget → Walks later tab u a budget (bound b n)
+  short : {n : ℕ} {met : List Best} {o : Outcome} → ¬ (Overload tab u a) → TurnsWalked later tab u a (walkOrder tab u a) n met o → budget < n → Walks later tab u a budget (spent budget)
+  past : {n : ℕ} {met : List Best} → ¬ (Overload tab u a) → TurnsWalked later tab u a (walkOrder tab u a) n met pastHorizon → n ≤ budget → Walks later tab u a budget (beyond n)
+  kept : {n R : ℕ} {by : Named} {met : List Best} → ¬ (Overload tab u a) → TurnsWalked later tab u a (walkOrder tab u a) n met bounded → n ≤ budget → bestOf nothing met .response ≡ R → named tab u (bestOf nothing met .source) ≡ by → Walks later tab u a budget (bound R n by)
 
 module _ (later : Later) (tab : Table) (u a budget : ℕ) where
   walked : Answer
-  walked = answerOf budget (walkTurns later tab u a (walkOrder tab u a) budget 0)
+  walked = answerOf tab u budget (walkTurns later tab u a (walkOrder tab u a) budget nothing)
 
   answer-overload : Overload tab u a → answer later tab u a budget ≡ overload
   unfolding answer answerBy
   answer-overload h = go (overload? tab u a)
     where
-      go : (d : Dec (Overload tab u a)) → answerBy d (answerOf budget (walkTurns later tab u a (walkOrder tab u a) budget 0)) ≡ overload
+      go : (d : Dec (Overload tab u a)) → answerBy d (answerOf tab u budget (walkTurns later tab u a (walkOrder tab u a) budget nothing)) ≡ overload
       go (yes x) = refl
       go (no x) = absurd (x h)
 
@@ -73,7 +75,7 @@ module _ (later : Later) (tab : Table) (u a budget : ℕ) where
   unfolding answer answerBy walked
   answer-walk h = go (overload? tab u a)
     where
-      go : (d : Dec (Overload tab u a)) → answerBy d (answerOf budget (walkTurns later tab u a (walkOrder tab u a) budget 0)) ≡ walked
+      go : (d : Dec (Overload tab u a)) → answerBy d (answerOf tab u budget (walkTurns later tab u a (walkOrder tab u a) budget nothing)) ≡ walked
       go (yes x) = absurd (h x)
       go (no x) = refl
 
@@ -82,15 +84,20 @@ module _ (later : Later) (tab : Table) (u a budget : ℕ) where
   unfolding answerOf walked
   walks-answer (overloaded h) = answer-overload h
   walks-answer (short free turns l) =
-      answer-walk free ∙ ap (answerOf budget) (turns-short later tab u a turns budget 0 l)
+      answer-walk free ∙ ap (answerOf tab u budget) (turns-short later tab u a turns budget nothing l)
   walks-answer (past {n = n} free turns l) =
-      answer-walk free ∙ ap (answerOf budget) (turns-enough later tab u a turns budget 0 l) ∙ ap beyond (omega arith)
-  walks-answer (kept {n = n} {b = b} free turns l) =
+      answer-walk free ∙ ap (answerOf tab u budget) (turns-enough later tab u a turns budget nothing l) ∙ ap beyond (omega arith)
+  walks-answer (kept {n = n} free turns l e f) =
+      let m : budget - (budget - n) ≡ n = omega arith in
       answer-walk free
-      ∙ ap (answerOf budget) (turns-enough later tab u a turns budget 0 l)
-      ∙ ap₂ bound (omega arith) (omega arith)
+      ∙ ap (answerOf tab u budget) (turns-enough later tab u a turns budget nothing l)
+      ∙ (λ i. bound (e i) (m i) (f i))
 
 -- ---- the walk and the definitions
+
+-- a bound has one first that gives it
+pub bound-by-unique : {later : Later} {tab : Table} {u a R Q : ℕ} {x y : Source} → BoundBy later tab u a R x → BoundBy later tab u a Q y → (x ≡ y) × (R ≡ Q)
+bound-by-unique h k = first-unique source-orders (h .first) (k .first)
 
 module _ {tab : Table} (kept-tab : Kept tab) {u a : ℕ} (isTask : IsTask tab u a) where
   walk-end : {later : Later} → Fair later → TurnsEnd later tab u a (walkOrder tab u a)
@@ -101,19 +108,19 @@ module _ {tab : Table} (kept-tab : Kept tab) {u a : ℕ} (isTask : IsTask tab u 
   needed-exists = let z = walk-end imposed-fair in (z .n, z .o, turns-needed (z .turns))
 
   -- with the turns that come to them
-  needed-turns : {n : ℕ} {o : Outcome} → Needed tab u a (walkOrder tab u a) n o → (b : ℕ) × TurnsWalked imposed tab u a (walkOrder tab u a) n b o
+  needed-turns : {n : ℕ} {o : Outcome} → Needed tab u a (walkOrder tab u a) n o → (met : List Best) × TurnsWalked imposed tab u a (walkOrder tab u a) n met o
   needed-turns needed =
       let z = walk-end imposed-fair in
       let (e, f) = needed-unique (turns-needed (z .turns)) needed in
-      (z .b, subst₂ (λ (x : ℕ) (y : Outcome). TurnsWalked imposed tab u a (walkOrder tab u a) x (z .b) y) e f (z .turns))
+      (z .met, subst₂ (λ (x : ℕ) (y : Outcome). TurnsWalked imposed tab u a (walkOrder tab u a) x (z .met) y) e f (z .turns))
 
   -- The outcome is past the horizon exactly when for some mode and candidate no t in 1..H meets the inequality for L
   pub outcome-past : {n : ℕ} → Needed tab u a (walkOrder tab u a) n pastHorizon → (m : ℕ) × (c : ℕ) × Setting tab u a m c × ((t : ℕ) → 1 ≤ t → t ≤ horizon → ¬ (busy tab u a m c t ≤ t))
-  outcome-past needed = let (b, turns) = needed-turns needed in walk-past imposed-fair kept-tab isTask turns
+  outcome-past needed = let (met, turns) = needed-turns needed in walk-past imposed-fair kept-tab isTask turns
 
   -- and otherwise there is a bound
   pub outcome-bounded : {n : ℕ} → Needed tab u a (walkOrder tab u a) n bounded → (R : ℕ) × Bound imposed tab u a R
-  outcome-bounded needed = let (b, turns) = needed-turns needed in (b, walk-bound imposed-fair kept-tab isTask turns)
+  outcome-bounded needed = let (met, turns) = needed-turns needed in (bestOf nothing met .response, walk-bound imposed-fair kept-tab isTask turns .bound)
 
   pub past-outcome : {n : ℕ} {o : Outcome} → Needed tab u a (walkOrder tab u a) n o → {m c : ℕ} → Setting tab u a m c → ((t : ℕ) → 1 ≤ t → t ≤ horizon → ¬ (busy tab u a m c t ≤ t)) → o ≡ pastHorizon
   past-outcome {n} {o} needed {m} {c} setting none = go o needed
@@ -135,18 +142,23 @@ module _ {tab : Table} (kept-tab : Kept tab) {u a : ℕ} (isTask : IsTask tab u 
       is : {x : Answer} → Walks later tab u a budget x → Walks later tab u a budget (answer later tab u a budget)
       is w = rw (walks-answer later tab u a budget w) w
 
-      go : Dec (Overload tab u a) → Dec (z .n ≤ budget) → (o : Outcome) → TurnsWalked later tab u a (walkOrder tab u a) (z .n) (z .b) o → Walks later tab u a budget (answer later tab u a budget)
+      go : Dec (Overload tab u a) → Dec (z .n ≤ budget) → (o : Outcome) → TurnsWalked later tab u a (walkOrder tab u a) (z .n) (z .met) o → Walks later tab u a budget (answer later tab u a budget)
       go (yes h) d o turns = is (overloaded h)
       go (no free) (no l) o turns = is (short free turns (omega arith))
       go (no free) (yes l) pastHorizon turns = is (past free turns l)
-      go (no free) (yes l) bounded turns = is (kept free turns l)
+      go (no free) (yes l) bounded turns = is (kept free turns l refl refl)
 
-  -- a bound that it answers is the bound
-  pub answer-bound : {later : Later} → Fair later → (budget : ℕ) {R n : ℕ} → answer later tab u a budget ≡ bound R n → Bound later tab u a R
-  answer-bound {later} fair budget {R} e = go (subst (Walks later tab u a budget) e (answer-walks fair budget))
+  -- a bound that it answers is the bound, and who it names is the first that gives it
+  pub answer-by : {later : Later} → Fair later → (budget : ℕ) {R n : ℕ} {by : Named} → answer later tab u a budget ≡ bound R n by → (x : Source) × (named tab u x ≡ by) × BoundBy later tab u a R x
+  answer-by {later} fair budget {R} {by = by} e = go (subst (Walks later tab u a budget) e (answer-walks fair budget))
     where
-      go : {n : ℕ} → Walks later tab u a budget (bound R n) → Bound later tab u a R
-      go (kept free turns l) = walk-bound fair kept-tab isTask turns
+      go : {n : ℕ} → Walks later tab u a budget (bound R n by) → (x : Source) × (named tab u x ≡ by) × BoundBy later tab u a R x
+      go (kept {met = met} free turns l r f) =
+          let x = bestOf nothing met .source in
+          (x, f, subst (λ (q : ℕ). BoundBy later tab u a q x) r (walk-bound fair kept-tab isTask turns))
+
+  pub answer-bound : {later : Later} → Fair later → (budget : ℕ) {R n : ℕ} {by : Named} → answer later tab u a budget ≡ bound R n by → Bound later tab u a R
+  answer-bound fair budget e = let (x, f, z) = answer-by fair budget e in z .bound
 
   -- The walk's answer is the answer of document 01
   pub answers : (budget : ℕ) → Answers tab u a budget (answer imposed tab u a budget)
@@ -156,16 +168,18 @@ module _ {tab : Table} (kept-tab : Kept tab) {u a : ℕ} (isTask : IsTask tab u 
       go (overloaded h) = Answers.overloaded h
       go (short free turns l) = Answers.short free (turns-needed turns) l
       go (past free turns l) = Answers.past free (turns-needed turns) l
-      go (kept free turns l) = Answers.kept free (turns-needed turns) l (walk-bound imposed-fair kept-tab isTask turns)
+      go (kept {n = n} {met = met} free turns l e f) =
+          subst₂ (λ (R : ℕ) (by : Named). Answers tab u a budget (bound R n by)) e f
+          (Answers.kept free (turns-needed turns) l (walk-bound imposed-fair kept-tab isTask turns))
 
   answers-walks : {budget : ℕ} {x : Answer} → Answers tab u a budget x → Walks imposed tab u a budget x
   answers-walks (Answers.overloaded h) = overloaded h
-  answers-walks (Answers.short free needed l) = let (b, turns) = needed-turns needed in short free turns l
-  answers-walks (Answers.past free needed l) = let (b, turns) = needed-turns needed in past free turns l
-  answers-walks {budget} (Answers.kept {n = n} {R = R} free needed l x) =
-      let (b, turns) = needed-turns needed in
-      let e : b ≡ R = bound-unique kept-tab isTask (walk-bound imposed-fair kept-tab isTask turns) x in
-      subst (λ (r : ℕ). Walks imposed tab u a budget (bound r n)) e (kept free turns l)
+  answers-walks (Answers.short free needed l) = let (met, turns) = needed-turns needed in short free turns l
+  answers-walks (Answers.past free needed l) = let (met, turns) = needed-turns needed in past free turns l
+  answers-walks {budget} (Answers.kept free needed l x) =
+      let (met, turns) = needed-turns needed in
+      let (e, f) = bound-by-unique (walk-bound imposed-fair kept-tab isTask turns) x in
+      kept free turns l f (ap (named tab u) e)
 
   -- and no other answer is
   pub answers-unique : {budget : ℕ} {x y : Answer} → Answers tab u a budget x → Answers tab u a budget y → x ≡ y

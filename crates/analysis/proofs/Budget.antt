@@ -18,4 +18,4 @@ greater-budget {later} fair {tab} kept-tab {u} {a} isTask {b} {d} l {x} e other 
     go (overloaded h) o = overloaded h
     go (short free turns h) o = absurd (o b refl)
     go (past free turns h) o = past free turns (le-trans h l)
-    go (kept free turns h) o = kept free turns (le-trans h l)
+    go (kept free turns h e f) o = kept free turns (le-trans h l) e f

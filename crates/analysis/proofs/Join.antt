@@ -24,6 +24,11 @@ pub jobs-to-job : (tab : Table) (u a c N : ℕ) → jobsTo tab u a c (job tab u 
 unfolding jobsTo count
 jobs-to-job tab u a c N = ap count (signed-to-job tab u a c N)
 
+-- so two counts from the first that give one job are one
+pub job-unique : (tab : Table) (u a c : ℕ) {N M : ℕ} → job tab u a c N ≡ job tab u a c M → N ≡ M
+job-unique tab u a c {N} {M} e =
+    omega (arith, jobs-to-job tab u a c N, jobs-to-job tab u a c M, ap (jobsTo tab u a c) e)
+
 pub own-job : (later : Later) (tab : Table) (u a m c N t : ℕ) → own later tab u a m c (job tab u a c N) t ≡ suc N * time tab u m a + charge later tab u a u m c t
 unfolding own
 own-job later tab u a m c N t = rw (jobs-to-job tab u a c N) refl

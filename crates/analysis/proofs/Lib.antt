@@ -4,11 +4,15 @@ pub mod Chain
 pub mod Charges
 pub mod Signed
 pub mod Order
+pub mod Before
+pub mod First
 pub mod Turn
 pub mod Walk
 pub mod Response
 pub mod Bounds
 pub mod Greatest
+pub mod Who
+pub mod Parts
 pub mod Answer
 pub mod Whole
 pub mod Budget

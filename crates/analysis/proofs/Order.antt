@@ -1,5 +1,5 @@
--- The turns of the walk are exactly the settings: each mode of u where a runs, with each candidate in it.
-use mathlib.Core.Path.{_≡_, sym, ap, subst}
+-- The turns of the walk are exactly the settings: each mode of u where a runs, with each candidate in it. They ascend.
+use mathlib.Core.Path.{_≡_, refl, sym, ap, subst}
 use mathlib.Core.Logic.{_⊎_, inl, inr, ite}
 use mathlib.Core.List.{
   List,
@@ -26,7 +26,8 @@ use native.Mathlib.Omega.{arith}
 use Rattle.table.specs.Table.{Table, modes, tasks}
 use Rattle.analysis.specs.Rival.{runs?, candidate?}
 use Rattle.analysis.specs.Bound.{Setting}
-use Rattle.analysis.specs.Order.{from, Turn, runningModes, candidates, turns, walkOrder}
+use Rattle.analysis.specs.Order.{from, Turn, TurnBefore, runningModes, candidates, turns, walkOrder}
+use Rattle.analysis.proofs.First.{Ascending, ascending-append}
 
 -- ---- lists of numbers, and a list cut down by a decision
 
@@ -123,3 +124,59 @@ module _ (tab : Table) (u a : ℕ) where
       let l = from-below (modes tab u) 0 i in
       let n = from-below (tasks tab u) 0 j in
       record { mode = omega arith; runs = r; place = omega arith; candidate = k }
+
+-- ---- in ascending order
+
+from-above : (n k : ℕ) {i : ℕ} → List·Memᴰ i (from k n) → k ≤ i
+unfolding from
+from-above zero k h = absurd (List·Memᴰ·not-nil h)
+from-above (suc n) k {i} h = go (List·Memᴰ·cases-cons h) (λ q. from-above n (suc k) q)
+  where
+    go : (i ≡ k) ⊎ List·Memᴰ i (from (suc k) n) → (List·Memᴰ i (from (suc k) n) → suc k ≤ i) → k ≤ i
+    go (inl e) rest = omega arith
+    go (inr q) rest = let z : suc k ≤ i = rest q in omega arith
+
+from-ascends : (n k : ℕ) → Ascending (λ (x y : ℕ). x < y) (from k n)
+unfolding from
+from-ascends zero k = Ascending.none
+from-ascends (suc n) k = Ascending.one (λ y h. from-above n (suc k) h) (from-ascends n (suc k))
+
+filter-ascends : {A : Type 0} {p : A → Type 0} (d : (x : A) → Dec (p x)) {Before : A → A → Type 0} {l : List A} → Ascending Before l → Ascending Before (filter d l)
+filter-ascends d Ascending.none = Ascending.none
+filter-ascends {A} {p} d {Before} (Ascending.one {x = x} {xs = l} least up) = go (d x) (filter-ascends d up)
+  where
+    go : (e : Dec (p x)) → Ascending Before (filter d l) → Ascending Before (ite {C = List A} e (x ∷ filter d l) (filter d l))
+    go (yes g) rest = Ascending.one (λ y h. least y (filter-of d l h .0)) rest
+    go (no g) rest = rest
+
+module _ (tab : Table) (u a : ℕ) where
+  mode-ascends : (m : ℕ) {cs : List ℕ} → Ascending (λ (x y : ℕ). x < y) cs → Ascending TurnBefore (map (λ c. record { mode = m; candidate = c }) cs)
+  mode-ascends m Ascending.none = Ascending.none
+  mode-ascends m (Ascending.one {x = x} {xs = cs} least up) = Ascending.one behind (mode-ascends m up)
+    where
+      of : ℕ → Turn
+      of y = record { mode = m; candidate = y }
+
+      behind : (y : Turn) → List·Memᴰ y (map of cs) → TurnBefore (of x) y
+      behind y h =
+          let (c, k, e) = Memᴰ·of-map of cs h in
+          subst (TurnBefore (of x)) e (TurnBefore.candidate refl (least c k))
+
+  turns-ascend : {ms : List ℕ} → Ascending (λ (x y : ℕ). x < y) ms → Ascending TurnBefore (turns tab u a ms)
+  unfolding turns candidates
+  turns-ascend Ascending.none = Ascending.none
+  turns-ascend (Ascending.one {x = m} {xs = ms} least up) =
+      ascending-append (mode-ascends m (filter-ascends (candidate? tab u a m) (from-ascends (tasks tab u) 0))) (turns-ascend up) across
+    where
+      of : ℕ → Turn
+      of y = record { mode = m; candidate = y }
+
+      across : (x y : Turn) → List·Memᴰ x (map of (candidates tab u a m)) → List·Memᴰ y (turns tab u a ms) → TurnBefore x y
+      across x y h k =
+          let (c, j, e) = Memᴰ·of-map of (candidates tab u a m) h in
+          let (p, q) = turns-of tab u a ms k in
+          subst (λ (t : Turn). TurnBefore t y) e (TurnBefore.mode (least (y .mode) p))
+
+  pub walk-ascends : Ascending TurnBefore (walkOrder tab u a)
+  unfolding walkOrder runningModes
+  walk-ascends = turns-ascend (filter-ascends (λ x. runs? tab u x a) (from-ascends (modes tab u) 0))

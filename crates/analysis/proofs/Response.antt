@@ -18,7 +18,7 @@ use Rattle.analysis.specs.Bound.{lastJob, jobsTo, demand, BusyLength, Co
 use Rattle.analysis.specs.Needed.{job}
 use Rattle.analysis.proofs.Choice.{least-unique}
 use Rattle.analysis.proofs.Bounds.{CandidateBound, Bounds}
-use Rattle.analysis.proofs.Join.{own-job, jobs-by}
+use Rattle.analysis.proofs.Join.{job-unique, own-job, jobs-by}
 use Rattle.analysis.proofs.Signed.{Minus, minus-pos, le-minus, response-minus, job-range, range-job}
 use Rattle.analysis.proofs.Charges.{Fair, imposed-fair, self-jobs}
 use Rattle.analysis.proofs.Turn.{job-completion, queued-completes, completion-within}
@@ -51,6 +51,14 @@ module _ {tab : Table} (kept : Kept tab) {u a : ℕ} (isTask : IsTask tab u a) w
           is = subst (λ (q : ℤ). r ≡ response tab u a c q (x .w)) is (x .is);
         },
       )
+
+  -- and where the job is counted from the first, it is that one
+  pub response-job : {later : Later} {m c L N : ℕ} {r : ℤ} → BusyLength tab u a m c L → Response later tab u a m c (job tab u a c N) r → (w : ℕ) × Queued later tab u a m c L N w r
+  response-job {c} {L} {N} length x =
+      let e : x .L ≡ L = least-unique (x .busyLength) length in
+      let (M, by, is) = range-job tab u a c T L (job tab u a c N) (x .first) (subst (λ (t : ℕ). job tab u a c N ≤ℤ lastJob tab u a c t) e (x .last)) in
+      let same : N ≡ M = job-unique tab u a c is in
+      (x .w, record { by = omega arith; completion = x .completion; is = x .is })
 
   pub queued-minus : {later : Later} {m c L N w : ℕ} {r : ℤ} → Queued later tab u a m c L N w r → Minus r (w + heldOf tab u c a * period tab u + offset tab u a) (phaseOf tab u c a + N * period tab u)
   queued-minus {c} {N} {w} q = subst (λ (z : ℤ). Minus z (w + heldOf tab u c a * period tab u + offset tab u a) (phaseOf tab u c a + N * period tab u)) (sym (q .is)) (response-minus tab u a c N w)

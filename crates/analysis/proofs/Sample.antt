@@ -1,6 +1,6 @@
 -- Each relation of the definitions at document 01's sample S: it holds of what is so, and fails of what is not. Task 2 is
 -- task 0 of transaction 1; its bound is 5, after 6 evaluations, and its whole-job bound is 7.
-use mathlib.Core.Path.{_≡_, refl}
+use mathlib.Core.Path.{_≡_, refl, ap}
 use mathlib.Core.Logic.{inl}
 use Prim.Native.Nat.{ℕ}
 use native.Mathlib.Omega.{arith}
@@ -14,13 +14,15 @@ use Rattle.analysis.specs.Bound.{Setting, Bound, Tight, BusyLength, Comp
 use Rattle.analysis.specs.Overload.{Overload}
 use Rattle.analysis.specs.Chain.{Chain, came, back, on}
 use Rattle.analysis.specs.Needed.{Beyond, Never, job, start, JobChains, one, Needed, bounded, turn}
-use Rattle.analysis.specs.Order.{walkOrder}
-use Rattle.analysis.specs.Answer.{bound, spent, Answers}
+use Rattle.analysis.specs.Order.{Turn, walkOrder}
+use Rattle.analysis.specs.Answer.{Named, bound, spent, Answers}
+use Rattle.analysis.specs.Who.{MostCharged, charged, nobody, none}
 use Rattle.analysis.specs.Computing.{computing}
 use Rattle.analysis.proofs.Chain.{chain-same}
 use Rattle.analysis.proofs.Turn.{busy-length, job-completion}
 use Rattle.analysis.proofs.Charges.{imposed-fair, released-fair}
 use Rattle.analysis.proofs.Response.{bound-unique}
+use Rattle.analysis.proofs.Who.{most-charged, most-unique}
 use Rattle.analysis.proofs.Answer.{answers, answers-unique, answer-bound, needed-unique}
 
 pub isTask-2 : IsTask S 1 0
@@ -103,7 +105,11 @@ not-needed-5 x =
 
 -- ---- answers
 
-pub answers-2 : Answers S 1 0 6 (bound 5 6)
+-- task 2 itself, in mode 0, with its first job
+abbrev pub itself : Named
+itself = record { mode = 0; candidate = 2; job = 0 }
+
+pub answers-2 : Answers S 1 0 6 (bound 5 6 itself)
 unfolding computing
 answers-2 = answers S-kept isTask-2 6
 
@@ -111,9 +117,9 @@ pub answers-2-short : Answers S 1 0 5 (spent 5)
 unfolding computing
 answers-2-short = answers S-kept isTask-2 5
 
-no-other-answer : ¬ (Answers S 1 0 6 (bound 4 6))
+no-other-answer : ¬ (Answers S 1 0 6 (bound 4 6 itself))
 no-other-answer x =
-    let e : bound 5 6 ≡ bound 4 6 = answers-unique S-kept isTask-2 answers-2 x in
+    let e : bound 5 6 itself ≡ bound 4 6 itself = answers-unique S-kept isTask-2 answers-2 x in
     let z : _≡_ {A = ℕ} 5 4 = cc in
     omega arith
 
@@ -135,3 +141,28 @@ tight-5 = record { whole = 7; isBound = whole-bound-2; tight = lit≤ tt }
 
 not-tight-8 : ¬ (Tight S 1 0 8)
 not-tight-8 t = omega (arith, t .tight, bound-unique S-kept isTask-2 whole-bound-2 (t .isBound))
+
+-- ---- who it was, and what the bound is made of
+
+-- at t = 5 tasks 0 and 1 charge task 2 the same, and task 0 is the first; the second is not
+most-2 : MostCharged imposed S 1 0 0 5 (charged 3 (record { mode = 0; candidate = 0 }))
+unfolding computing
+most-2 = most-charged imposed S 1 0 0 5
+
+not-the-last : ¬ (MostCharged imposed S 1 0 0 5 (charged 3 (record { mode = 0; candidate = 1 })))
+not-the-last x =
+    let e = most-unique most-2 x in
+    let same : _≡_ {A = Turn} (record { mode = 0; candidate = 0 }) (record { mode = 0; candidate = 1 }) = cc in
+    omega (arith, ap (λ (y : Turn). y .candidate) same)
+
+-- with rivals somebody is named though nothing is charged
+not-nobody : ¬ (MostCharged imposed S 1 0 0 0 nobody)
+unfolding computing
+not-nobody (none h) = h (record { mode = 0; candidate = 0 }) _ (record { mode = lit< tt; place = lit< tt; rival = record { other = λ b. omega (arith, b .0); urgent = lit≤ tt; runs = lit< tt }; is = refl })
+
+-- another candidate is not the first that gives the bound
+not-by-another : ¬ (Answers S 1 0 6 (bound 5 6 (record { mode = 0; candidate = 0; job = 0 })))
+not-by-another x =
+    let e : bound 5 6 itself ≡ bound 5 6 (record { mode = 0; candidate = 0; job = 0 }) = answers-unique S-kept isTask-2 answers-2 x in
+    let same : itself ≡ record { mode = 0; candidate = 0; job = 0 } = cc in
+    omega (arith, ap (λ (y : Named). y .candidate) same)

@@ -46,10 +46,13 @@ BusyLength tab u a m c = Least (λ t. (1 ≤ t) × (busy tab u a m c t ≤ t))
 abbrev pub Completion : Later → Table → (u a m c : ℕ) (p : ℤ) (w : ℕ) → Type 0
 Completion later tab u a m c p = Least (λ t. demand later tab u a m c p t ≡ t)
 
+-- Arrival of job p: F + (p − 1)·T. A job held back to the instant arrived before it
+abbrev pub arrival : Table → (u a c : ℕ) (p : ℤ) → ℤ
+arrival tab u a c p = pos (phaseOf tab u c a) +ℤ (p -ℤ pos 1) *ℤ pos (period tab u)
+
 -- Response of job p that completes at w: w − (F + (p − 1)·T) + O
 unfoldable pub response : Table → (u a c : ℕ) (p : ℤ) (w : ℕ) → ℤ
-response tab u a c p w =
-    pos w -ℤ (pos (phaseOf tab u c a) +ℤ (p -ℤ pos 1) *ℤ pos (period tab u)) +ℤ pos (offset tab u a)
+response tab u a c p w = pos w -ℤ arrival tab u a c p +ℤ pos (offset tab u a)
 
 -- One name that opens the definitions so far
 unfoldable pub bounding : Unit {0}

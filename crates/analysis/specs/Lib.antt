@@ -6,6 +6,9 @@ pub mod Overload
 pub mod Chain
 pub mod Order
 pub mod Needed
+pub mod First
+pub mod Who
+pub mod Parts
 pub mod Answer
 pub mod Walk
 pub mod Computing

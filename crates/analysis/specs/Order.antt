@@ -1,7 +1,8 @@
--- The order of the walk: modes of u where a has C > 0, ascending, and in each the candidates in image order.
+-- The order of the walk: modes of u where a has C > 0, ascending, and in each the candidates in image order, and for each
+-- of them its jobs upward.
 use mathlib.Core.Path.{_≡_, refl}
 use mathlib.Core.List.{List, [], _∷_, _++_, map, filter}
-use Prim.Native.Nat.{ℕ, zero, suc}
+use Prim.Native.Nat.{ℕ, zero, suc, _<_}
 use native.Mathlib.Decide.{decLe, ℕ-discrete}
 use Rattle.table.specs.Table.{Table, modes, tasks}
 use Rattle.table.specs.Sample.{plain, task, transaction, table}
@@ -17,6 +18,21 @@ from k (suc n) = k ∷ from (suc k) n
 pub record Turn : Type 0 where
   pub mode : ℕ
   pub candidate : ℕ
+
+-- x comes before y: in a mode before y's, or in the same mode with a candidate before y's in image order
+pub data TurnBefore (x y : Turn) : Type 0 where
+  mode : x .mode < y .mode → TurnBefore x y
+  candidate : x .mode ≡ y .mode → x .candidate < y .candidate → TurnBefore x y
+
+-- a job of one turn, counted from its first: p − p0
+pub record Source : Type 0 where
+  pub turn : Turn
+  pub job : ℕ
+
+-- x comes before y: in a turn before y's, or before y in the same turn
+pub data SourceBefore (x y : Source) : Type 0 where
+  turn : TurnBefore (x .turn) (y .turn) → SourceBefore x y
+  job : x .turn ≡ y .turn → x .job < y .job → SourceBefore x y
 
 unfoldable pub runningModes : Table → (u a : ℕ) → List ℕ
 runningModes tab u a = filter (λ m. runs? tab u m a) (from 0 (modes tab u))

@@ -7,7 +7,7 @@ use Rattle.table.specs.Kept.{Kept}
 use Rattle.table.proofs.Ranges.{kept-period}
 use Rattle.periods.specs.Charge.{imposed}
 use Rattle.analysis.specs.Bound.{Bound, Tight}
-use Rattle.analysis.specs.Answer.{Answers, bound, kept}
+use Rattle.analysis.specs.Answer.{Named, Answers, bound, kept}
 use Rattle.analysis.specs.Walk.{answer}
 use Rattle.runs.specs.Run.{Run, Finished, eventTick}
 use Rattle.runs.specs.Legal.{Rules, HoldsWidely}
@@ -40,11 +40,11 @@ module _ {tab : Table} (keeps : Kept tab) {u a : ℕ} (isTask : IsTask tab u a) 
   bound-safe {R} b = safe tab (λ i l. kept-period keeps l) u a R isTask (bounds keeps isTask b)
 
   -- of the answer that the definitions give
-  pub answers-safe : {budget R n : ℕ} → Answers tab u a budget (bound R n) → Safe tab u a R × Tight tab u a R
-  answers-safe (kept o needed l b) = (bound-safe b, tight keeps isTask b)
+  pub answers-safe : {budget R n : ℕ} {by : Named} → Answers tab u a budget (bound R n by) → Safe tab u a R × Tight tab u a R
+  answers-safe (kept o needed l b) = (bound-safe (b .bound), tight keeps isTask (b .bound))
 
   -- and of the answer that the walk computes
-  pub answer-safe : (budget : ℕ) {R n : ℕ} → answer imposed tab u a budget ≡ bound R n → Safe tab u a R × Tight tab u a R
+  pub answer-safe : (budget : ℕ) {R n : ℕ} {by : Named} → answer imposed tab u a budget ≡ bound R n by → Safe tab u a R × Tight tab u a R
   answer-safe budget e =
       let b = answer-bound keeps isTask imposed-fair budget e in
       (bound-safe b, tight keeps isTask b)

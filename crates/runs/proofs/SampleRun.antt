@@ -164,7 +164,7 @@ pub long-tight : ¬ (Safe one 0 0 8)
 long-tight = unsafe one longRun 0 0 8 long-legal long-responds
 
 -- its bound, as S's is computed beside the definitions: J + B + C
-pub long-bound : answer imposed one 0 0 100 ≡ bound 9 3
+pub long-bound : answer imposed one 0 0 100 ≡ bound 9 3 (record { mode = 0; candidate = 0; job = 0 })
 unfolding computing
 long-bound = refl
 

@@ -25,7 +25,7 @@ pub data Question : Type 0 where
   phaseIn : (tab : Table) (u a c : ℕ) → Question
   jobsIn : (tab : Table) (u a m c : ℕ) → Question
   responsesIn : (tab : Table) (u a m c : ℕ) → Question
-  -- the task's bound, its code, its evaluations, its three cells under a budget, and its whole-job bound
+  -- the task's bound, its code, its evaluations, its cells under a budget, and its whole-job bound
   boundOf : (tab : Table) (u a : ℕ) → Question
   codeOf : (tab : Table) (u a : ℕ) → Question
   evaluationsOf : (tab : Table) (u a : ℕ) → Question
@@ -51,8 +51,8 @@ unfoldable pub responseOf : Table → (u a m c : ℕ) (p : ℤ) → ℤ
 responseOf tab u a m c p =
     response tab u a c p (end (chain (demand imposed tab u a m c p) never? enough (start tab u a m c p)))
 
-unfoldable pub threeCells : Later → Table → (u a budget : ℕ) → Cells
-threeCells later tab u a budget = cells (deadline tab u a) (answer later tab u a budget)
+unfoldable pub cellsUnder : Later → Table → (u a budget : ℕ) → Cells
+cellsUnder later tab u a budget = cells (deadline tab u a) (answer later tab u a budget)
 
 -- what the definitions give
 unfoldable pub given : Question → List ℤ
@@ -63,15 +63,18 @@ given (releasedAt T C F t) = pos (released T C (pos t -ℤ pos F)) ∷ []
 given (phaseIn tab u a c) = pos (phaseOf tab u c a) ∷ []
 given (jobsIn tab u a m c) = jobNumbers tab u a m c
 given (responsesIn tab u a m c) = map (responseOf tab u a m c) (jobNumbers tab u a m c)
-given (boundOf tab u a) = pos (threeCells imposed tab u a enough .bound) ∷ []
-given (codeOf tab u a) = pos (threeCells imposed tab u a enough .code) ∷ []
-given (evaluationsOf tab u a) = pos (threeCells imposed tab u a enough .evaluations) ∷ []
+given (boundOf tab u a) = pos (cellsUnder imposed tab u a enough .bound) ∷ []
+given (codeOf tab u a) = pos (cellsUnder imposed tab u a enough .code) ∷ []
+given (evaluationsOf tab u a) = pos (cellsUnder imposed tab u a enough .evaluations) ∷ []
 given (cellsOf tab u a budget) =
-    pos (threeCells imposed tab u a budget .code)
-    ∷ pos (threeCells imposed tab u a budget .bound)
-    ∷ pos (threeCells imposed tab u a budget .evaluations)
+    pos (cellsUnder imposed tab u a budget .code)
+    ∷ pos (cellsUnder imposed tab u a budget .bound)
+    ∷ pos (cellsUnder imposed tab u a budget .evaluations)
+    ∷ pos (cellsUnder imposed tab u a budget .mode)
+    ∷ pos (cellsUnder imposed tab u a budget .candidate)
+    ∷ pos (cellsUnder imposed tab u a budget .job)
     ∷ []
-given (wholeBoundOf tab u a) = pos (threeCells released tab u a enough .bound) ∷ []
+given (wholeBoundOf tab u a) = pos (cellsUnder released tab u a enough .bound) ∷ []
 
 -- a line of a page of worked cases: what is asked, and what the page says
 pub record Line : Type 0 where

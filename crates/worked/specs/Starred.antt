@@ -6,7 +6,7 @@ use Prim.Native.Nat.{ℕ}
 use Rattle.table.specs.Table.{Table}
 use Rattle.table.specs.Sample.{S, lone, plain, task, transaction, table}
 use Rattle.analysis.specs.Computing.{computing}
-use Rattle.worked.specs.Question.{ownHeld, phaseFrom, imposedAt, releasedAt, phaseIn, jobsIn, responsesIn, boundOf, codeOf, evaluationsOf, cellsOf, Line, end, jobNumbers, responseOf, threeCells, given, asked, said}
+use Rattle.worked.specs.Question.{ownHeld, phaseFrom, imposedAt, releasedAt, phaseIn, jobsIn, responsesIn, boundOf, codeOf, evaluationsOf, cellsOf, Line, end, jobNumbers, responseOf, cellsUnder, given, asked, said}
 
 -- One task, frame and T 10, C 2, J 12, D 20, rest 0
 abbrev pub delayed : Table
@@ -53,12 +53,12 @@ starred =
     ∷ record { ask = boundOf S 0 0; says = pos 2 ∷ [] }
     ∷ record { ask = boundOf S 0 1; says = pos 7 ∷ [] }
     ∷ record { ask = boundOf S 1 0; says = pos 5 ∷ [] }
-    -- S, task 2: budget 5 gives 23, 0, 5; budget 6 gives 20, 5, 6
-    ∷ record { ask = cellsOf S 1 0 5; says = pos 23 ∷ pos 0 ∷ pos 5 ∷ [] }
-    ∷ record { ask = cellsOf S 1 0 6; says = pos 20 ∷ pos 5 ∷ pos 6 ∷ [] }
+    -- S, task 2: budget 5 gives 23, 0, 5; budget 6 gives 20, 5, 6, from mode 0, candidate 2 and its first job
+    ∷ record { ask = cellsOf S 1 0 5; says = pos 23 ∷ pos 0 ∷ pos 5 ∷ pos 0 ∷ pos 0 ∷ pos 0 ∷ [] }
+    ∷ record { ask = cellsOf S 1 0 6; says = pos 20 ∷ pos 5 ∷ pos 6 ∷ pos 0 ∷ pos 2 ∷ pos 0 ∷ [] }
     ∷ []
 
 -- The definitions give what document 01 says, on every line
 pub checkedByHand : asked starred ≡ said starred
-unfolding computing end jobNumbers responseOf threeCells given
+unfolding computing end jobNumbers responseOf cellsUnder given
 checkedByHand = refl
