@@ -15,7 +15,7 @@ use Rattle.periods.proofs.Phase.{phase-lt}
 use Rattle.periods.proofs.Charge.{ceiling-is, ceil-le}
 use Rattle.analysis.specs.Choice.{count}
 use Rattle.analysis.specs.Charge.{phaseOf, heldOf}
-use Rattle.analysis.specs.Bound.{Setting, firstJob, lastJob, jobsTo, demand, busy, response}
+use Rattle.analysis.specs.Bound.{Setting, arrival, firstJob, lastJob, jobsTo, demand, busy, response}
 use Rattle.analysis.specs.Needed.{job, start}
 use Rattle.analysis.specs.Walk.{chain, beyond?, never?}
 use Rattle.analysis.proofs.Join.{jobs-by}
@@ -102,6 +102,9 @@ module _ {tab : Table} (kept : Kept tab) {u a : ℕ} (isTask : IsTask tab u a) w
     pub instant-jobs : (p : ℤ) → count (p -ℤ x .first .0 +ℤ pos 1) ≡ jobsTo tab u a c p
     unfolding jobsTo
     instant-jobs p = rw (instant .first) refl
+
+    pub instant-arrival : (p : ℤ) → pos (x .phase .0) +ℤ (p -ℤ pos 1) *ℤ pos (x .period .0) ≡ arrival tab u a c p
+    instant-arrival p = rw (instant .phase, instant .period) refl
 
     pub instant-response : (p : ℤ) (w : ℕ) → pos w -ℤ (pos (x .phase .0) +ℤ (p -ℤ pos 1) *ℤ pos (x .period .0)) +ℤ pos (x .offset .0) ≡ response tab u a c p w
     unfolding response

@@ -9,3 +9,5 @@ pub mod Walks
 pub mod Filling
 pub mod Weighing
 pub mod Linking
+pub mod Most
+pub mod Pushing

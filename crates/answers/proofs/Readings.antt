@@ -24,7 +24,7 @@ use Rattle.charge.specs.Later.{laterOf}
 use Rattle.charge.specs.Split.{wholePeriods, restOf, restAt, rests, chargeCap}
 use Rattle.charge.specs.Weight.{weight, modeWeight, heldBack}
 use Rattle.charge.specs.Links.{settingNumber, NextSetting}
-use Rattle.charge.proofs.Weights.{weight-lt, mode-weight-le}
+use Rattle.charge.proofs.Weights.{weight-lt, mode-weight-le, held-back-le}
 use Rattle.charge.proofs.Split.{rest-le, charge-split, charge-capped}
 use Rattle.charge.proofs.Along.{SettingAt}
 use Rattle.answers.specs.Split.{moment, IsSplit}
@@ -34,7 +34,7 @@ use Rattle.answers.specs.Work.{phasesCell, weightsCell, sumsCell, settin
 
 module _ {tab : Table} (kept : Kept tab) {i : ℕ} {x : Split} (split : IsSplit tab i x) where
   -- a period is a tick at least
-  pub periods-lt : x .periods < 2 ^ 24
+  pub periods-lt : x .periods < 2 ^ 32
   unfolding moment
   periods-lt =
       let some : 0 < x .period = omega (arith, split .period, kept-period kept (split .owner)) in
@@ -46,11 +46,11 @@ module _ {tab : Table} (kept : Kept tab) {i : ℕ} {x : Split} (split : IsSplit 
 
   module _ {m : ℕ} (mode : m < modes tab i) (u a : ℕ) where
     -- one period more than the whole ones
-    pub passed-le : (x .periods + 1) * modeWeight tab u a i m ≤ 2 ^ 52
+    pub passed-le : (x .periods + 1) * modeWeight tab u a i m ≤ 2 ^ 60
     passed-le =
-        mul-le-mul {n₂ = 2 ^ 24} {m₂ = tasksMost * 2 ^ 24} (omega (arith, periods-lt)) (mode-weight-le kept u a (split .owner) mode)
+        mul-le-mul {n₂ = 2 ^ 32} {m₂ = tasksMost * 2 ^ 24} (omega (arith, periods-lt)) (mode-weight-le kept u a (split .owner) mode)
 
-    pub whole-le : (whole : Bool) → wholePeriods whole (x .periods) * modeWeight tab u a i m ≤ 2 ^ 52
+    pub whole-le : (whole : Bool) → wholePeriods whole (x .periods) * modeWeight tab u a i m ≤ 2 ^ 60
     unfolding wholePeriods
     whole-le true = le-trans (mul-le-mul-right {m = x .periods} {n = x .periods + 1} _ (omega arith)) passed-le
     whole-le false = le-trans (mul-le-mul-right {m = x .periods - 1} {n = x .periods + 1} _ (omega arith)) passed-le
@@ -70,6 +70,11 @@ module _ {tab : Table} (kept : Kept tab) {i : ℕ} {x : Split} (split : IsSplit 
     charge-at-most =
         rw (split .period)
         (charge-capped kept whole (split .owner) (x .periods) (x .rest) (omega (arith, split .below, split .period)) u a m c)
+
+    -- which is far below 2 ^ 64
+    pub charge-fits : m < modes tab i → charge (laterOf whole) tab u a i m c (moment x) < 2 ^ 61
+    unfolding chargeCap
+    charge-fits mode = omega (arith, charge-at-most, held-back-le kept u a (split .owner) mode c, passed-le mode u a)
 
 -- ---- cells
 

@@ -3,3 +3,4 @@ pub mod Turn
 pub mod Work
 pub mod Parts
 pub mod Split
+pub mod Who

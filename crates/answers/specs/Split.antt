@@ -1,8 +1,7 @@
 -- A transaction at one t that is split by its period, in the code's own type.
 use mathlib.Core.Path.{_≡_}
 use mathlib.Core.List.{List}
-use Prim.Native.Nat.{ℕ, _+_, _*_, _≤_, _<_}
-use Rattle.table.specs.Limits.{horizon}
+use Prim.Native.Nat.{ℕ, _+_, _*_, _^_, _<_}
 use Rattle.table.specs.Table.{Table, IsTask, transactions, period, modes, tasks}
 use Rattle.table.specs.Number.{before}
 use Rattle.row.specs.Row.{tableOf}
@@ -14,14 +13,14 @@ use Rattle.answers.specs.Work.{Lent, IsSubject}
 unfoldable pub moment : Split → ℕ
 moment x = x .periods * x .period + x .rest
 
--- x holds a t within the horizon, split by the period of transaction i, and where its tasks stand
+-- x holds a t of 32 bits, split by the period of transaction i, and where its tasks stand
 pub record IsSplit (tab : Table) (i : ℕ) (x : Split) : Type 0 where
   pub owner : i < transactions tab
   pub first : x .first ≡ before tab i
   pub count : x .count ≡ tasks tab i
   pub period : x .period ≡ period tab i
   pub below : x .rest < x .period
-  pub within : moment x ≤ horizon
+  pub within : moment x < 2 ^ 32
 
 -- of that t
 pub record IsSplitAt (tab : Table) (i t : ℕ) (x : Split) : Type 0 where

@@ -10,6 +10,7 @@ use Rattle.analysis.specs.Charge.{phaseOf}
 use Rattle.analysis.specs.Bound.{Setting, firstJob, lastJob, jobsTo, demand, busy}
 use Rattle.analysis.specs.Chain.{came, over}
 use mathlib.Core.List.{List, [], map, filter}
+use Rattle.analysis.specs.Order as order
 use Rattle.analysis.specs.Order.{Turn, from}
 use Rattle.analysis.specs.Rival.{runs?, candidate?}
 use Rattle.analysis.specs.Walk as walk
@@ -17,6 +18,8 @@ use Rattle.analysis.specs.Walk.{ended, through, past}
 use Rattle.answers.specs.declared.chains.Instant.{Instant}
 use Rattle.answers.specs.declared.chains.Stop.{Stop}
 use Rattle.answers.specs.declared.chains.Stop.the-variants.{Came, Over, Short}
+use Rattle.answers.specs.declared.walk.Source.{Source}
+use Rattle.answers.specs.declared.walk.Best.{Best}
 use Rattle.answers.specs.declared.walk.Walked.{Walked}
 use Rattle.answers.specs.declared.walk.Walked.the-variants.{Through, Past, Broke}
 
@@ -56,9 +59,29 @@ stopped budget (ended (came t) left) = Came (record { 0 = t }) (budget - left)
 stopped budget (ended over left) = Over (budget - left)
 stopped budget walk.Stop.short = Short
 
+-- a job of the walk and its response, as the definitions say them
+unfoldable pub sourceMeant : Source → order.Source
+sourceMeant x = record { turn = record { mode = x .mode; candidate = x .candidate }; job = x .job .0 }
+
+unfoldable pub bestMeant : Best → walk.Best
+bestMeant b = record { response = b .response .0; source = sourceMeant (b .source) }
+
+-- and as the code does
+unfoldable pub bestSaid : walk.Best → Best
+bestSaid b =
+    record {
+      response = record { 0 = b .response };
+      source =
+          record {
+            mode = b .source .turn .mode;
+            candidate = b .source .turn .candidate;
+            job = record { 0 = b .source .job };
+          };
+    }
+
 -- how far a walk came, as the code says it
 unfoldable pub walked : (budget : ℕ) → walk.Walked → Walked
-walked budget (through left best) = Through (record { used = budget - left; best = record { 0 = best } })
+walked budget (through left best) = Through (record { used = budget - left; best = bestSaid best })
 walked budget (past left) = Past (budget - left)
 walked budget walk.Walked.short = Broke
 

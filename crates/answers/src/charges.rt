@@ -85,10 +85,10 @@ pub(crate) struct Split {
     pub(crate) periods: u64,
 }
 
-fn split_of(work: &[u32; Work::CELLS], i: usize, t: Ticks) -> Split
+pub(crate) fn split_of(work: &[u32; Work::CELLS], i: usize, t: Ticks) -> Split
     requires { ⌜ RowOfTable (now work) ⌝ }
     requires { ⌜ i < transactions (tableOf (now work)) ⌝ }
-    requires { ⌜ t .0 ≤ horizon ⌝ }
+    requires { ⌜ t .0 < 2 ^ 32 ⌝ }
     ensures { λ r. ⌜ IsSplitAt (tableOf (now (work .entry))) i (t .0) r ⌝ }
 {
     let cell = Table::HEADER_CELLS + i * Transaction::CELLS;
@@ -208,7 +208,7 @@ fn whole_periods(whole: bool, periods: u64) -> u64
 }
 
 // A transaction's charge for (c, mode) sums its rivals.
-fn charge(
+pub(crate) fn charge(
     work: &[u32; Work::CELLS],
     s: Subject,
     whole: bool,

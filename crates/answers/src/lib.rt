@@ -1,12 +1,16 @@
-// How late can each task finish? The cells of every task of an image, and the C host's number for one task. The layers
-// below speak to each other inside this crate, and learn of an image only what `image::read` promises.
+// How late can each task finish, and who pushed it? The cells of every task of an image, the C host's number for one task, what a
+// bound is made of, and what a transaction charges. The layers below speak to each other inside this crate, and learn of an image only
+// what `image::read` promises.
 use layout::Work;
+use parts::Made;
+use parts::Part;
 use refusals::Answer;
 use refusals::Refusal;
 use row::Table;
 use told::Filled;
 use told::TaskCells;
 ghost use Rattle.row.specs.Row.{tableOf, RowOfTable};
+ghost use Rattle.parts.specs.Parts.{Makes, ChargesOne};
 ghost use Rattle.told.specs.Told.{Fills, FillsFrom, Responds, RespondsFrom};
 
 mod answers;
@@ -15,9 +19,11 @@ mod charges;
 mod layout;
 mod links;
 mod overload;
+mod pushed;
 mod quantity;
 mod reads;
 mod walk;
+mod who;
 mod work;
 
 // The cells of every task, or nothing where they do not fit.
@@ -79,6 +85,42 @@ pub fn response(image: &[u8], task: u32, budget: u32) -> u64
         Answer::Accepted => {
             let table = reading.table;
             response_of(&table.cells, reads::index(task), budget)
+        }
+    }
+}
+
+// What the bound of one task is made of.
+pub fn parts(image: &[u8], task: u32, budget: u32) -> Made
+    ensures { λ r. ⌜ Makes (now (image .entry)) task budget r ⌝ }
+{
+    let reading = image::read(image);
+    let answer = reading.answer;
+    match answer {
+        Answer::Refused(refusal, at) => Made::Refused(refusal, at),
+        Answer::Accepted => {
+            let table = reading.table;
+            pushed::parts_from(&table.cells, reads::index(task), budget)
+        }
+    }
+}
+
+// The greatest charge of one transaction against one task by t, whole jobs at their release or what they impose.
+pub fn charge(image: &[u8], task: u32, transaction: u32, whole: bool, t: u32) -> Part
+    ensures { λ r. ⌜ ChargesOne (now (image .entry)) task transaction whole t r ⌝ }
+{
+    let reading = image::read(image);
+    let answer = reading.answer;
+    match answer {
+        Answer::Refused(refusal, at) => Part::Refused(refusal, at),
+        Answer::Accepted => {
+            let table = reading.table;
+            pushed::charge_from(
+                &table.cells,
+                reads::index(task),
+                reads::index(transaction),
+                whole,
+                t,
+            )
         }
     }
 }

@@ -4,7 +4,6 @@ use super::chains;
 use super::chains::Instant;
 use super::chains::Stop;
 use super::charges::Subject;
-use super::charges::greater;
 use super::layout::Work;
 use super::links;
 use super::quantity::JobNumber;
@@ -23,15 +22,28 @@ ghost use Rattle.analysis.specs.Choice.{count};
 ghost use Rattle.analysis.specs.Rival.{Runs, candidate?};
 ghost use Rattle.analysis.specs.Bound.{Setting};
 ghost use Rattle.analysis.specs.Order.{walkOrder};
-ghost use Rattle.analysis.specs.Walk.{walkJobs, walkTurn, walkTurns};
+ghost use Rattle.analysis.specs.Walk.{nothing, better, walkJobs, walkTurn, walkTurns};
 ghost use Rattle.answers.specs.Lent.{tested};
-ghost use Rattle.answers.specs.Turn.{IsInstant, Near, Lasts, walked, turnsFrom, modeTurns};
+ghost use Rattle.answers.specs.Turn.{IsInstant, Near, Lasts, bestMeant, walked, turnsFrom, modeTurns};
 ghost use Rattle.answers.specs.Work.{Lent, IsSubject};
+
+// A job of the walk: mode, candidate, and the job counted from the candidate's first.
+pub(crate) struct Source {
+    pub(crate) mode: usize,
+    pub(crate) candidate: usize,
+    pub(crate) job: Jobs,
+}
+
+// A response, and the job that has it.
+pub(crate) struct Best {
+    pub(crate) response: Ticks,
+    pub(crate) source: Source,
+}
 
 // The evaluations made so far, and the greatest response so far.
 pub(crate) struct Walk {
     pub(crate) used: u32,
-    pub(crate) best: Ticks,
+    pub(crate) best: Best,
 }
 
 // How far a walk came: through, past the horizon, or short of budget.
@@ -42,7 +54,7 @@ pub(crate) enum Walked {
 }
 
 // The arrival of job p, F + (p − 1)·T: here ticks and job numbers are joined.
-fn arrival(period: Ticks, phase: Ticks, p: JobNumber) -> Moment
+pub(crate) fn arrival(period: Ticks, phase: Ticks, p: JobNumber) -> Moment
     requires { ⌜ period .0 < 2 ^ 24 ⌝ }
     requires { ⌜ phase .0 < 2 ^ 24 ⌝ }
     requires { ⌜ Near (p .0) ⌝ }
@@ -70,12 +82,19 @@ fn response(x: Instant, p: JobNumber, w: Ticks) -> Ticks
 }
 
 // The N-th job counted from the first.
-fn job(first: JobNumber, n: Jobs) -> JobNumber
+pub(crate) fn job(first: JobNumber, n: Jobs) -> JobNumber
     requires { ⌜ Near (first .0) ⌝ }
     requires { ⌜ n .0 < 2 ^ 26 ⌝ }
     ensures { λ r. ⌜ r .0 ≡ first .0 +ℤ pos (n .0) ⌝ }
 {
     JobNumber(first.0 + n.0 as i64)
+}
+
+// The later one only if its response is greater.
+fn better(x: Best, y: Best) -> Best
+    ensures { λ r. ⌜ bestMeant r ≡ better (bestMeant x) (bestMeant y) ⌝ }
+{
+    if x.response.0 < y.response.0 { y } else { x }
 }
 
 // Whether task c is a candidate of the subject in mode m.
@@ -97,11 +116,18 @@ fn is_candidate(work: &[u32; Work::CELLS], s: Subject, m: usize, c: usize) -> bo
 
 impl Walk {
     pub(crate) fn new() -> Walk
-        ensures { λ r. ⌜ (r .used ≡ 0) × (r .best .0 ≡ 0) ⌝ }
+        ensures { λ r. ⌜ (r .used ≡ 0) × (bestMeant (r .best) ≡ nothing) ⌝ }
     {
         Walk {
             used: 0,
-            best: Ticks(0),
+            best: Best {
+                response: Ticks(0),
+                source: Source {
+                    mode: 0,
+                    candidate: 0,
+                    job: Jobs(0),
+                },
+            },
         }
     }
 
@@ -121,15 +147,27 @@ impl Walk {
         requires { ⌜ Lasts (tableOf (now work)) (s .u) (s .a) (x .mode) (x .candidate) (jobs .0) ⌝ }
         requires { ⌜ n .0 < jobs .0 ⌝ }
         requires { ⌜ self .used ≤ budget ⌝ }
-        ensures { λ r. ⌜ r ≡ walked budget (walkJobs imposed (tableOf (now (work .entry))) (s .u) (s .a) (x .mode) (x .candidate) 1 (n .0) (budget - self .used) (self .best .0)) ⌝ }
+        ensures { λ r. ⌜ r ≡ walked budget (walkJobs imposed (tableOf (now (work .entry))) (s .u) (s .a) (x .mode) (x .candidate) 1 (n .0) (budget - self .used) (bestMeant (self .best))) ⌝ }
     {
         let first = x.first;
         let p = job(first, n);
         match chains::job_chain(work, s, x, p, budget, self.used) {
-            Stop::Came(w, used) => Walked::Through(Walk {
-                used,
-                best: Ticks(greater(self.best.0, response(x, p, w).0)),
-            }),
+            Stop::Came(w, used) => {
+                let best = self.best;
+                let source = Source {
+                    mode: x.mode,
+                    candidate: x.candidate,
+                    job: n,
+                };
+                let met = Best {
+                    response: response(x, p, w),
+                    source,
+                };
+                Walked::Through(Walk {
+                    used,
+                    best: better(best, met),
+                })
+            }
             Stop::Over(used) => Walked::Past(used),
             Stop::Short => Walked::Broke,
         }
@@ -149,7 +187,7 @@ impl Walk {
         requires { ⌜ IsInstant (tableOf (now work)) (s .u) (s .a) (x .mode) (x .candidate) x ⌝ }
         requires { ⌜ Lasts (tableOf (now work)) (s .u) (s .a) (x .mode) (x .candidate) (jobs .0) ⌝ }
         requires { ⌜ self .used ≤ budget ⌝ }
-        ensures { λ r. ⌜ r ≡ walked budget (walkJobs imposed (tableOf (now (work .entry))) (s .u) (s .a) (x .mode) (x .candidate) (jobs .0) 0 (budget - self .used) (self .best .0)) ⌝ }
+        ensures { λ r. ⌜ r ≡ walked budget (walkJobs imposed (tableOf (now (work .entry))) (s .u) (s .a) (x .mode) (x .candidate) (jobs .0) 0 (budget - self .used) (bestMeant (self .best))) ⌝ }
     {
         let count = jobs.0;
         let mut state = self;
@@ -171,7 +209,7 @@ impl Walk {
         requires { ⌜ IsSubject (now work) s ⌝ }
         requires { ⌜ Setting (tableOf (now work)) (s .u) (s .a) m c ⌝ }
         requires { ⌜ self .used ≤ budget ⌝ }
-        ensures { λ r. ⌜ r ≡ walked budget (walkTurn imposed (tableOf (now (work .entry))) (s .u) (s .a) (record { mode = m; candidate = c }) (budget - self .used) (self .best .0)) ⌝ }
+        ensures { λ r. ⌜ r ≡ walked budget (walkTurn imposed (tableOf (now (work .entry))) (s .u) (s .a) (record { mode = m; candidate = c }) (budget - self .used) (bestMeant (self .best))) ⌝ }
     {
         let x = chains::instant_of(work, s, m, c);
         match chains::busy_chain(work, s, x, budget, self.used) {
@@ -203,7 +241,7 @@ impl Walk {
         requires { ⌜ Runs (tableOf (now work)) (s .u) m (s .a) ⌝ }
         requires { ⌜ c < tasks (tableOf (now work)) (s .u) ⌝ }
         requires { ⌜ self .used ≤ budget ⌝ }
-        ensures { λ r. ⌜ r ≡ walked budget (walkTurns imposed (tableOf (now (work .entry))) (s .u) (s .a) (turnsFrom (tableOf (now (work .entry))) (s .u) (s .a) m c 1) (budget - self .used) (self .best .0)) ⌝ }
+        ensures { λ r. ⌜ r ≡ walked budget (walkTurns imposed (tableOf (now (work .entry))) (s .u) (s .a) (turnsFrom (tableOf (now (work .entry))) (s .u) (s .a) m c 1) (budget - self .used) (bestMeant (self .best))) ⌝ }
     {
         if is_candidate(work, s, m, c) {
             self.turn(work, s, m, c, budget)
@@ -218,7 +256,7 @@ impl Walk {
         requires { ⌜ IsSubject (now work) s ⌝ }
         requires { ⌜ m < modes (tableOf (now work)) (s .u) ⌝ }
         requires { ⌜ self .used ≤ budget ⌝ }
-        ensures { λ r. ⌜ r ≡ walked budget (walkTurns imposed (tableOf (now (work .entry))) (s .u) (s .a) (modeTurns (tableOf (now (work .entry))) (s .u) (s .a) m) (budget - self .used) (self .best .0)) ⌝ }
+        ensures { λ r. ⌜ r ≡ walked budget (walkTurns imposed (tableOf (now (work .entry))) (s .u) (s .a) (modeTurns (tableOf (now (work .entry))) (s .u) (s .a) m) (budget - self .used) (bestMeant (self .best))) ⌝ }
     {
         if reads::time(work, s.u, m, s.a) == 0 {
             return Walked::Through(self);
@@ -242,7 +280,7 @@ impl Walk {
         requires { ⌜ Lent (now work) ⌝ }
         requires { ⌜ IsSubject (now work) s ⌝ }
         requires { ⌜ self .used ≤ budget ⌝ }
-        ensures { λ r. ⌜ r ≡ walked budget (walkTurns imposed (tableOf (now (work .entry))) (s .u) (s .a) (walkOrder (tableOf (now (work .entry))) (s .u) (s .a)) (budget - self .used) (self .best .0)) ⌝ }
+        ensures { λ r. ⌜ r ≡ walked budget (walkTurns imposed (tableOf (now (work .entry))) (s .u) (s .a) (walkOrder (tableOf (now (work .entry))) (s .u) (s .a)) (budget - self .used) (bestMeant (self .best))) ⌝ }
     {
         let count = reads::modes(work, s.u);
         let mut state = self;

@@ -107,7 +107,7 @@ module _ {tab : Table} (kept : Kept tab) where
       rival-charge-le j l =
           le-trans (when-le (rival? tab u a i m j) _) (task-charge-le (record { owner = h; place = l }) mode c whole short)
 
-      pub charge-le : charge (laterOf whole) tab u a i m c t ≤ chargeMost
+      charge-le : charge (laterOf whole) tab u a i m c t ≤ chargeMost
       unfolding charge
       charge-le = omega (arith, sum-most (tasks tab i) rival-charge-le, tasks-few kept h)
 

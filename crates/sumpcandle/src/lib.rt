@@ -1,10 +1,18 @@
 // What the emulator's host, an editor and the programs call: the cells of every task of an image, the C host's number for one task,
-// and a table read into cells and written from them.
-// Each function is one call into the crates below, where what it promises is found.
+// who pushed it, and a table read into cells and written from them.
+// Each function is one call into the crates below, where what it promises is found, or one of theirs, passed on: `parts`, what the bound
+// of one task is made of; `part`, the part of one transaction in it; `charge`, what one transaction charges a task by t.
+use parts::Charge;
+use parts::Parts;
 use row::Table;
 ghost use Rattle.row.specs.Row.{tableOf};
 ghost use Rattle.told.specs.Told.{Fills, Responds};
 ghost use Rattle.editor.specs.Editor.{Takes, Gives};
+ghost use Rattle.parts.specs.Parts.{Makes, ChargesOne, HasPart};
+ghost use Rattle.asked.specs.Asked.{TellsFilled, TellsMade, TellsPart, isWhole};
+pub use answers::charge;
+pub use answers::parts;
+pub use asked::part;
 pub use told::Filled;
 pub use told::TaskCells;
 
@@ -26,6 +34,14 @@ pub extern "C" fn sumpcandle_response(image: &[u8], task: u32, budget: u32) -> u
     answers::response(image, task, budget)
 }
 
+// And the cells of every task, with who gave its bound. The result is 0; for 1 to 12 that number × 2^32 + its place.
+#[no_mangle]
+pub extern "C" fn sumpcandle_cells(image: &[u8], budget: u32, cells: &mut [u32]) -> u64
+    ensures { λ r. ⌜ TellsFilled (now (image .entry)) budget (now (cells .entry)) (now (cells .exit)) r ⌝ }
+{
+    asked::tell_cells(image, budget, cells)
+}
+
 // For an editor in C: the table of an image into the cells, which stay as they were where the image is refused. The result is
 // number × 2^32 + place, 0 where the image is accepted.
 #[no_mangle]
@@ -42,4 +58,49 @@ pub extern "C" fn sumpcandle_write(cells: &[u32; Table::CELLS], buffer: &mut [u8
     ensures { λ r. ⌜ Gives (tableOf (now (cells .entry))) (now (buffer .entry)) (now (buffer .exit)) r ⌝ }
 {
     editor::write(cells, buffer)
+}
+
+// For the emulator's C host, who pushed one task: what its bound is made of, into the cells. The result is the place of the answer's case,
+// `Made::GIVEN` or `Made::NO_BOUND`; for 1 to 11 and 13 that number × 2^32 + its place. But where they are given, the cells stay as they
+// were.
+#[no_mangle]
+pub extern "C" fn sumpcandle_parts(
+    image: &[u8],
+    task: u32,
+    budget: u32,
+    cells: &mut [i64; Parts::COUNT],
+) -> u64
+    ensures { λ r. ⌜ TellsMade (Makes (now (image .entry)) task budget) (now (cells .entry)) (now (cells .exit)) r ⌝ }
+{
+    asked::tell_parts(image, task, budget, cells)
+}
+
+// The part of one transaction in that bound: what it imposes until the completion, with the mode and the candidate. The result is the
+// case of `Part`, in the same way.
+#[no_mangle]
+pub extern "C" fn sumpcandle_part(
+    image: &[u8],
+    task: u32,
+    budget: u32,
+    transaction: u32,
+    cells: &mut [u64; Charge::COUNT],
+) -> u64
+    ensures { λ r. ⌜ TellsPart (HasPart (now (image .entry)) task budget transaction) (now (cells .entry)) (now (cells .exit)) r ⌝ }
+{
+    asked::tell_part(image, task, budget, transaction, cells)
+}
+
+// And its greatest charge by any t: what it imposes where `whole` is 0, else what it releases. There `Part::NO_BOUND` is never given.
+#[no_mangle]
+pub extern "C" fn sumpcandle_charge(
+    image: &[u8],
+    task: u32,
+    transaction: u32,
+    whole: u32,
+    t: u32,
+    cells: &mut [u64; Charge::COUNT],
+) -> u64
+    ensures { λ r. ⌜ TellsPart (ChargesOne (now (image .entry)) task transaction (isWhole whole) t) (now (cells .entry)) (now (cells .exit)) r ⌝ }
+{
+    asked::tell_charge(image, task, transaction, whole, t, cells)
 }

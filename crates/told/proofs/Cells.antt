@@ -6,7 +6,7 @@ use native.Mathlib.Omega.{arith}
 use borrow.Author.Tests.{le-leb, lt-leb}
 use lib.ListN.{length, getD, take, drop, length-drop, length-append, List·getD-append}
 use lib.Seq.{sets, ext-getD, length-take-le, getD-take, getD-drop}
-use Rattle.table.specs.Lists.{joined}
+use Rattle.table.specs.Lists.{listOf, joined}
 use Rattle.table.proofs.Lists.{length-joined, getD-joined, join-next}
 use Rattle.analysis.specs.Answer.{Cells}
 use Rattle.told.specs.Cells.{cellsOfTask, listed, cellsIn, stored}
@@ -22,7 +22,17 @@ listed-unique {c} {d} e =
     let code : c .code ≡ d .code = cc in
     let bound : c .bound ≡ d .bound = cc in
     let evaluations : c .evaluations ≡ d .evaluations = cc in
-    λ i. record { code = code i; bound = bound i; evaluations = evaluations i }
+    let mode : c .mode ≡ d .mode = cc in
+    let candidate : c .candidate ≡ d .candidate = cc in
+    let job : c .job ≡ d .job = cc in
+    λ i. record {
+      code = code i;
+      bound = bound i;
+      evaluations = evaluations i;
+      mode = mode i;
+      candidate = candidate i;
+      job = job i;
+    }
 
 -- ---- room
 
@@ -34,6 +44,16 @@ module _ (cells : List ℕ) (k : ℕ) (c : Cells) where
   pub stored-nowhere : length cells < cellsOfTask * suc k → stored cells k c ≡ cells
   unfolding stored
   stored-nowhere short = rw (lt-leb (cellsOfTask * suc k) (length cells) short)
+
+  -- stored one by one from a list
+  pub stored-each :
+      (list : List ℕ)
+      → list ≡ listed c
+      → cellsOfTask * suc k ≤ length cells
+      → sets cells (cellsOfTask * k) (listOf cellsOfTask (λ i. getD list i 0)) ≡ stored cells k c
+  unfolding listed listOf
+  stored-each list is room =
+      ap (λ (l : List ℕ). sets cells (cellsOfTask * k) (listOf cellsOfTask (λ i. getD l i 0))) is ∙ sym (stored-there room)
 
 -- ---- the cells of one task behind another's
 

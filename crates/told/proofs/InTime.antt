@@ -31,12 +31,12 @@ owed-kept : {tab : Table} {u a budget : ℕ} {c : Cells} → IsTask tab u a → 
 unfolding cells codeBy
 owed-kept {tab} {u} {a} isTask o z = go (o .answer) refl (ap (λ (c : Cells). c .code) (sym (o .is)) ∙ z)
   where
-    bounded : (R n : ℕ) (d : Dec (R ≤ deadline tab u a)) → o .answer ≡ definition.bound R n → codeBy d ≡ 0 → Safe tab u a (deadline tab u a)
-    bounded R n (yes l) e h = safe-later isTask l (o .safe R n e)
-    bounded R n (no l) e h = absurd (omega (arith, h))
+    bounded : (R n : ℕ) (by : definition.Named) (d : Dec (R ≤ deadline tab u a)) → o .answer ≡ definition.bound R n by → codeBy d ≡ 0 → Safe tab u a (deadline tab u a)
+    bounded R n by (yes l) e h = safe-later isTask l (o .safe R n by e)
+    bounded R n by (no l) e h = absurd (omega (arith, h))
 
     go : (x : definition.Answer) → o .answer ≡ x → cells (deadline tab u a) x .code ≡ 0 → Safe tab u a (deadline tab u a)
-    go (definition.bound R n) e h = bounded R n (decLe R (deadline tab u a)) e h
+    go (definition.bound R n by) e h = bounded R n by (decLe R (deadline tab u a)) e h
     go definition.overload e h = absurd (omega (arith, h))
     go (definition.beyond n) e h = absurd (omega (arith, h))
     go (definition.spent n) e h = absurd (omega (arith, h))

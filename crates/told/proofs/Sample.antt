@@ -17,7 +17,7 @@ use Rattle.format.specs.Fault.{imageFault, IsAccepted}
 use Rattle.format.specs.Computing.{computing as reading}
 use Rattle.format.proofs.Kept.{kept}
 use Rattle.periods.specs.Charge.{imposed}
-use Rattle.analysis.specs.Answer.{Answer, bound, Cells, cells}
+use Rattle.analysis.specs.Answer.{Named, Answer, bound, Cells, cells}
 use Rattle.analysis.specs.Walk.{answer}
 use Rattle.analysis.specs.Computing.{computing}
 use Rattle.analysis.proofs.Charges.{imposed-fair}
@@ -37,42 +37,42 @@ imageS =
     ∷ 0x00 ∷ 0x00 ∷ 0x00 ∷ 0x00 ∷ 0x14 ∷ 0x10 ∷ 0x00 ∷ 0x00 ∷ 0x06 ∷ 0x00 ∷ 0x00 ∷ 0x28 ∷ 0x21 ∷ 0x00 ∷ 0x00 ∷ 0x00
     ∷ 0x00 ∷ 0x00 ∷ 0x00 ∷ 0x00 ∷ 0x00 ∷ 0x00 ∷ 0x00 ∷ 0x00 ∷ 0x01 ∷ 0x00 ∷ 0x40 ∷ 0x00 ∷ 0x00 ∷ 0x80 ∷ []
 
-S-accepted : IsAccepted imageS
+pub S-accepted : IsAccepted imageS
 unfolding reading
 S-accepted = refl
 
-S-table : tableIn imageS ≡ S
+pub S-table : tableIn imageS ≡ S
 unfolding reading
 S-table = refl
 
-empty-refused : imageFault [] ≡ Refused EndsInside 0
+pub empty-refused : imageFault [] ≡ Refused EndsInside 0
 unfolding reading
 empty-refused = refl
 
-S-kept : Kept S
+pub S-kept : Kept S
 S-kept = rw S-table at (kept imageS S-accepted)
 
 -- task 2 of S
-last-S : IsTask S 1 0
+pub last-S : IsTask S 1 0
 unfolding computing
 last-S = record { owner = omega arith; place = omega arith }
 
 -- the cells of S's tasks by number
 cellsS : ℕ → Cells
-cellsS zero = record { code = 0; bound = 2; evaluations = 3 }
-cellsS (suc zero) = record { code = 0; bound = 7; evaluations = 5 }
-cellsS (suc (suc k)) = record { code = 20; bound = 5; evaluations = 6 }
+cellsS zero = record { code = 0; bound = 2; evaluations = 3; mode = 0; candidate = 0; job = 0 }
+cellsS (suc zero) = record { code = 0; bound = 7; evaluations = 5; mode = 0; candidate = 1; job = 0 }
+cellsS (suc (suc k)) = record { code = 20; bound = 5; evaluations = 6; mode = 0; candidate = 2; job = 0 }
 
 module _ {budget : ℕ} (enough : 6 ≤ budget) where
   -- with six evaluations no task of S is short, so a greater budget changes nothing
-  answer-S : {u a R n : ℕ} → IsTask S u a → answer imposed S u a 6 ≡ bound R n → answer imposed S u a budget ≡ bound R n
+  pub answer-S : {u a R n : ℕ} {by : Named} → IsTask S u a → answer imposed S u a 6 ≡ bound R n by → answer imposed S u a budget ≡ bound R n by
   answer-S is e = greater-budget imposed-fair S-kept is enough e (λ m f. let z : _≡_ {A = ℕ} 0 1 = cc in omega arith)
 
-  owed-S : {u a R n : ℕ} → IsTask S u a → answer imposed S u a 6 ≡ bound R n → Owed S u a budget (cells (deadline S u a) (bound R n))
+  owed-S : {u a R n : ℕ} {by : Named} → IsTask S u a → answer imposed S u a 6 ≡ bound R n by → Owed S u a budget (cells (deadline S u a) (bound R n by))
   owed-S {u} {a} is e =
       subst (λ (x : Answer). Owed S u a budget (cells (deadline S u a) x)) (answer-S is e) (owed S-kept is budget)
 
-  owed-S-at : {u a R n : ℕ} → IsTask S u a → answer imposed S u a 6 ≡ bound R n → OwedAt S (number S u a) budget (cells (deadline S u a) (bound R n))
+  owed-S-at : {u a R n : ℕ} {by : Named} → IsTask S u a → answer imposed S u a 6 ≡ bound R n by → OwedAt S (number S u a) budget (cells (deadline S u a) (bound R n by))
   owed-S-at {u} {a} is e = record { u = u; a = a; isTask = is; numbered = refl; owed = owed-S is e }
 
   each : (k : ℕ) → k < inAll S → OwedAt S k budget (cellsS k)
@@ -82,21 +82,21 @@ module _ {budget : ℕ} (enough : 6 ≤ budget) where
   each (suc (suc zero)) l = owed-S-at {u = 1} {a = 0} last-S refl
   each (suc (suc (suc k))) l = absurd (omega arith)
 
-  -- document 01's listing of S, and then what was there
+  -- the listing of S, six cells a task, and then what was there
   S-from :
       {before after : List ℕ} {r : Filled}
-      → 9 ≤ length before
+      → 18 ≤ length before
       → FillsFrom S budget before after r
-      → (r ≡ filled.Done 3) × (after ≡ 0 ∷ 2 ∷ 3 ∷ 0 ∷ 7 ∷ 5 ∷ 20 ∷ 5 ∷ 6 ∷ drop 9 before)
+      → (r ≡ filled.Done 3) × (after ≡ 0 ∷ 2 ∷ 3 ∷ 0 ∷ 0 ∷ 0 ∷ 0 ∷ 7 ∷ 5 ∷ 0 ∷ 1 ∷ 0 ∷ 20 ∷ 5 ∷ 6 ∷ 0 ∷ 2 ∷ 0 ∷ drop 18 before)
   unfolding computing joined listed cellsS
   S-from room (FillsFrom.short l e) = absurd (omega arith)
   S-from room (FillsFrom.done w) = (refl, written-joined S-kept w cellsS each)
 
   pub S-cells :
       {before after : List ℕ} {r : Filled}
-      → 9 ≤ length before
+      → 18 ≤ length before
       → Fills imageS budget before after r
-      → (r ≡ filled.Done 3) × (after ≡ 0 ∷ 2 ∷ 3 ∷ 0 ∷ 7 ∷ 5 ∷ 20 ∷ 5 ∷ 6 ∷ drop 9 before)
+      → (r ≡ filled.Done 3) × (after ≡ 0 ∷ 2 ∷ 3 ∷ 0 ∷ 0 ∷ 0 ∷ 0 ∷ 7 ∷ 5 ∷ 0 ∷ 1 ∷ 0 ∷ 20 ∷ 5 ∷ 6 ∷ 0 ∷ 2 ∷ 0 ∷ drop 18 before)
   S-cells room (Fills.refused h e) = let z : _≡_ {A = ℕ} 0 1 = cc S-accepted in absurd (omega arith)
   S-cells {before} {after} {r} room (Fills.accepted ok f) =
       S-from room (subst (λ (tab : Table). FillsFrom tab budget before after r) S-table f)

@@ -43,8 +43,8 @@ module _ {tab : Table} (keeps : Kept tab) {u a : ℕ} (isTask : IsTask tab u a) 
         answer = answer imposed tab u a budget;
         answers = answers keeps isTask budget;
         is = refl;
-        safe = λ R n e. answer-safe keeps isTask budget e .0;
-        tight = λ R n e. answer-safe keeps isTask budget e .1;
+        safe = λ R n by e. answer-safe keeps isTask budget e .0;
+        tight = λ R n by e. answer-safe keeps isTask budget e .1;
       }
 
   -- and no others are
@@ -71,7 +71,7 @@ module _ {tab : Table} (keeps : Kept tab) {u a : ℕ} (isTask : IsTask tab u a) 
       go (Answers.overloaded h) = omega arith
       go (Answers.short h n l) = omega arith
       go (Answers.past h n l) = omega arith
-      go (Answers.kept h n l b) = omega (arith, bound-most keeps isTask imposed-fair b)
+      go (Answers.kept h n l b) = omega (arith, bound-most keeps isTask imposed-fair (b .bound))
 
 -- ---- and the task of one number, which is one task
 

@@ -9,11 +9,11 @@ use lib.Seq.{sets}
 use Rattle.analysis.specs.Answer.{Cells}
 
 abbrev pub cellsOfTask : ℕ
-cellsOfTask = 3
+cellsOfTask = 6
 
 -- a task's cells in their order
 unfoldable pub listed : Cells → List ℕ
-listed c = c .code ∷ c .bound ∷ c .evaluations ∷ []
+listed c = c .code ∷ c .bound ∷ c .evaluations ∷ c .mode ∷ c .candidate ∷ c .job ∷ []
 
 -- the cells of task number k
 unfoldable pub cellsIn : List ℕ → ℕ → List ℕ
@@ -36,11 +36,14 @@ unfoldable pub areKept : List ℕ → (n : ℕ) → Bool
 areKept cells zero = true
 areKept cells (suc k) = cond (areKept cells k) (isKept cells k) false
 
--- S: the first two tasks keep their deadlines, the third is not shown to, and a fourth has no cells
-S-kept : map (areKept (0 ∷ 2 ∷ 3 ∷ 0 ∷ 7 ∷ 5 ∷ 20 ∷ 5 ∷ 6 ∷ [])) (0 ∷ 2 ∷ 3 ∷ []) ≡ true ∷ true ∷ false ∷ []
+-- S: the first two tasks keep their deadlines, the third is not shown to
+S-kept :
+    map (areKept (0 ∷ 2 ∷ 3 ∷ 0 ∷ 0 ∷ 0 ∷ 0 ∷ 7 ∷ 5 ∷ 0 ∷ 1 ∷ 0 ∷ 20 ∷ 5 ∷ 6 ∷ 0 ∷ 2 ∷ 0 ∷ [])) (0 ∷ 2 ∷ 3 ∷ [])
+    ≡ true ∷ true ∷ false ∷ []
 unfolding areKept isKept
 S-kept = refl
 
-no-fourth : map (areKept (0 ∷ 2 ∷ 3 ∷ 0 ∷ 7 ∷ 5 ∷ 0 ∷ 3 ∷ 6 ∷ [])) (3 ∷ 4 ∷ []) ≡ true ∷ false ∷ []
+-- a third task whose last cell is missing has no cells there
+no-third : map (areKept (0 ∷ 2 ∷ 3 ∷ 0 ∷ 0 ∷ 0 ∷ 0 ∷ 7 ∷ 5 ∷ 0 ∷ 1 ∷ 0 ∷ 0 ∷ 5 ∷ 6 ∷ 0 ∷ 2 ∷ [])) (2 ∷ 3 ∷ []) ≡ true ∷ false ∷ []
 unfolding areKept isKept
-no-fourth = refl
+no-third = refl

@@ -12,7 +12,7 @@ use Rattle.refusals.specs.declared.Answer.the-variants.{Refused}
 use Rattle.refusals.specs.Answer.{refusalNumber}
 use Rattle.format.specs.Fault.{imageFault, IsAccepted}
 use Rattle.format.specs.Said.{tableIn}
-use Rattle.analysis.specs.Answer.{Answer, bound, Cells, cells, Answers}
+use Rattle.analysis.specs.Answer.{Named, Answer, bound, Cells, cells, Answers}
 use Rattle.analysis.specs.Bound.{Tight}
 use Rattle.runs.specs.Promise.{Safe}
 use Rattle.told.specs.declared.Filled.{Filled}
@@ -33,8 +33,8 @@ pub record Owed (tab : Table) (u a budget : ℕ) (c : Cells) : Type 0 where
   pub answer : Answer
   pub answers : Answers tab u a budget answer
   pub is : c ≡ cells (deadline tab u a) answer
-  pub safe : (R n : ℕ) → answer ≡ bound R n → Safe tab u a R
-  pub tight : (R n : ℕ) → answer ≡ bound R n → Tight tab u a R
+  pub safe : (R n : ℕ) (by : Named) → answer ≡ bound R n by → Safe tab u a R
+  pub tight : (R n : ℕ) (by : Named) → answer ≡ bound R n by → Tight tab u a R
 
 -- c is what the task with number k is owed
 pub record OwedAt (tab : Table) (k budget : ℕ) (c : Cells) : Type 0 where

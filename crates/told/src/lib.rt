@@ -3,8 +3,8 @@
 use refusals::Refusal;
 ghost use mathlib.Core.Path.{_≡_};
 ghost use lib.ListN.{length};
-ghost use Rattle.analysis.specs.Answer.{cells};
-ghost use Rattle.told.specs.Cells.{hasRoom, stored, areKept};
+ghost use Rattle.analysis.specs.Answer.{cells, unbounded};
+ghost use Rattle.told.specs.Cells.{hasRoom, listed, stored, areKept};
 ghost use Rattle.told.specs.Answered.{meant, cellsMeant};
 ghost use Rattle.told.specs.Told.{filledNumber, filledPlace, paired};
 
@@ -36,10 +36,17 @@ impl Filled {
     }
 }
 
+// Who gave a bound: the mode, the candidate's number in the whole table, and the job, counted from the candidate's first.
+pub struct Named {
+    pub mode: u32,
+    pub candidate: u32,
+    pub job: u32,
+}
+
 // What is found of one task.
 pub enum TaskAnswer {
-    // The bound, and the evaluations.
-    Bound(u32, u32),
+    // The bound, the evaluations, and who gave it.
+    Bound(u32, u32, Named),
     Overload,
     // The evaluations.
     Beyond(u32),
@@ -52,7 +59,7 @@ impl TaskAnswer {
         ensures { λ r. ⌜ cellsMeant r ≡ cells deadline (meant self) ⌝ }
     {
         match self {
-            TaskAnswer::Bound(bound, evaluations) => TaskCells {
+            TaskAnswer::Bound(bound, evaluations, by) => TaskCells {
                 code: if bound <= deadline {
                     TaskCells::KEPT
                 } else {
@@ -60,42 +67,42 @@ impl TaskAnswer {
                 },
                 bound,
                 evaluations,
+                mode: by.mode,
+                candidate: by.candidate,
+                job: by.job,
             },
-            TaskAnswer::Overload => TaskCells {
-                code: TaskCells::OVERLOAD,
-                bound: TaskCells::NO_BOUND,
-                evaluations: 0,
-            },
-            TaskAnswer::Beyond(evaluations) => TaskCells {
-                code: TaskCells::BEYOND,
-                bound: TaskCells::NO_BOUND,
-                evaluations,
-            },
-            TaskAnswer::Spent(evaluations) => TaskCells {
-                code: TaskCells::SPENT,
-                bound: TaskCells::NO_BOUND,
-                evaluations,
-            },
+            TaskAnswer::Overload => TaskCells::unbounded(TaskCells::OVERLOAD, 0),
+            TaskAnswer::Beyond(evaluations) => TaskCells::unbounded(TaskCells::BEYOND, evaluations),
+            TaskAnswer::Spent(evaluations) => TaskCells::unbounded(TaskCells::SPENT, evaluations),
         }
     }
 }
 
-// What a caller gets of one task: document 01's code, the bound or 0, and the evaluations.
+// What a caller gets of one task: document 01's code, the bound or 0, the evaluations, and who gave the bound.
 pub struct TaskCells {
     pub code: u32,
     pub bound: u32,
     pub evaluations: u32,
+    pub mode: u32,
+    pub candidate: u32,
+    pub job: u32,
 }
 
 impl TaskCells {
     // How many, and where each stands, counted from the task's first cell.
-    pub const COUNT: usize = 3;
+    pub const COUNT: usize = 6;
 
     pub const CODE_CELL: usize = 0;
 
     pub const BOUND_CELL: usize = 1;
 
     pub const EVALUATIONS_CELL: usize = 2;
+
+    pub const MODE_CELL: usize = 3;
+
+    pub const CANDIDATE_CELL: usize = 4;
+
+    pub const JOB_CELL: usize = 5;
 
     pub const KEPT: u32 = 0;
 
@@ -107,8 +114,36 @@ impl TaskCells {
 
     pub const SPENT: u32 = 23;
 
-    // The bound cell for 21 to 23.
+    // The bound cell, and the three that say who gave it, for 21 to 23.
     pub const NO_BOUND: u32 = 0;
+
+    // The cells of a task without a bound.
+    fn unbounded(code: u32, evaluations: u32) -> TaskCells
+        ensures { λ r. ⌜ cellsMeant r ≡ unbounded code evaluations ⌝ }
+    {
+        TaskCells {
+            code,
+            bound: TaskCells::NO_BOUND,
+            evaluations,
+            mode: TaskCells::NO_BOUND,
+            candidate: TaskCells::NO_BOUND,
+            job: TaskCells::NO_BOUND,
+        }
+    }
+
+    // Each in its place.
+    fn listed(self) -> [u32; TaskCells::COUNT]
+        ensures { λ r. ⌜ r ≡ listed (cellsMeant self) ⌝ }
+    {
+        let mut list = [0; TaskCells::COUNT];
+        list[TaskCells::CODE_CELL] = self.code;
+        list[TaskCells::BOUND_CELL] = self.bound;
+        list[TaskCells::EVALUATIONS_CELL] = self.evaluations;
+        list[TaskCells::MODE_CELL] = self.mode;
+        list[TaskCells::CANDIDATE_CELL] = self.candidate;
+        list[TaskCells::JOB_CELL] = self.job;
+        list
+    }
 
     // Whether so many cells are enough for so many tasks.
     pub fn have_room(cells: usize, tasks: usize) -> bool
@@ -122,10 +157,13 @@ impl TaskCells {
         ensures { λ _. ⌜ now (cells .exit) ≡ stored (now (cells .entry)) k (cellsMeant self) ⌝ }
     {
         if k < cells.len() / TaskCells::COUNT {
+            let list = self.listed();
             let at = TaskCells::COUNT * k;
-            cells[at + TaskCells::CODE_CELL] = self.code;
-            cells[at + TaskCells::BOUND_CELL] = self.bound;
-            cells[at + TaskCells::EVALUATIONS_CELL] = self.evaluations;
+            let mut i: usize = 0;
+            while i < TaskCells::COUNT {
+                cells[at + i] = list[i];
+                i += 1;
+            }
         }
     }
 

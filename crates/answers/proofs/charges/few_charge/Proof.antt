@@ -2,8 +2,7 @@
 use borrow.Author.Needs.{needs}
 use mathlib.Core.Path.{sym}
 use native.Mathlib.Omega.{arith}
-use Rattle.charge.proofs.Ranges.{charge-le}
-use Rattle.answers.proofs.Readings.{whole-le, charge-at}
+use Rattle.answers.proofs.Readings.{whole-le, charge-at, charge-fits}
 use Rattle.answers.proofs.charges.few_charge.Statement.{statement}
 use Rattle.answers.proofs.charges.few_charge.Tie as tie
 
@@ -41,13 +40,13 @@ add-t11 : tie.Need-add-t11
 add-t11 c =
     let s = c .before .before .before .before .before in
     let setting = s .pre .0 in
-    omega (arith, returns c, charge-le (setting .lent .table .kept) (s .args .whole) (setting .split .within) (s .args .s .u) (s .args .s .a) (setting .isTask .owner) (setting .mode) (s .args .c))
+    omega (arith, returns c, charge-fits (setting .lent .table .kept) (setting .split) (s .args .whole) (s .args .s .u) (s .args .s .a) (s .args .m) (s .args .c) (setting .mode))
 
 add-t13 : tie.Need-add-t13
 add-t13 c =
     let s = c .before .before .before .before .before in
     let setting = s .pre .0 in
-    omega (arith, returns c, charge-le (setting .lent .table .kept) (s .args .whole) (setting .split .within) (s .args .s .u) (s .args .s .a) (setting .isTask .owner) (setting .mode) (s .args .c))
+    omega (arith, returns c, charge-fits (setting .lent .table .kept) (setting .split) (s .args .whole) (s .args .s .u) (s .args .s .a) (s .args .m) (s .args .c) (setting .mode))
 
 pub few-charge-spec : {M : Type 1} → statement M
 few-charge-spec =

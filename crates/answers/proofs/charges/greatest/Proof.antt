@@ -21,7 +21,7 @@ abbrev μ-loop : tie.MeasureT-loop
 μ-loop work s whole i x end best₀ z₀ best z = end - z
 
 split-of-requires : tie.Need-split-of-requires Inv-loop μ-loop
-split-of-requires c κs = (c .pre .0 .table, c .pre .1 .1)
+split-of-requires c κs = (c .pre .0 .table, (c .pre .1 .1 .0, omega arith))
 
 -- the places read lie within the cells
 few : (c : tie.After-split-of Inv-loop μ-loop) → c .split-of .result .first + c .split-of .result .count ≤ tasksInAll

@@ -86,7 +86,7 @@ loop-again c =
 split-of-requires : tie.Need-split-of-requires Inv-loop μ-loop
 split-of-requires c κs =
     let pre = c .before .before .before .before .before .pre in
-    (pre .0 .table, (pre .1 .1 .0 .owner, pre .1 .1 .1 .1))
+    (pre .0 .table, (pre .1 .1 .0 .owner, omega arith))
 
 charge-requires : tie.Need-charge-requires Inv-loop μ-loop
 charge-requires c κs =

@@ -7,7 +7,7 @@ use native.Mathlib.Omega.{arith}
 use lib.ListN.{getD}
 use denote.Ref.{now}
 use borrow.Author.Needs.{needs}
-use Rattle.told.specs.Cells.{areKept}
+use Rattle.told.specs.Cells.{cellsOfTask, areKept}
 use Rattle.told.proofs.Verdict.{kept-here, no-cells, other-code, kept-next, not-kept}
 use Rattle.told.proofs.TaskCells.all_kept.Statement.{statement}
 use Rattle.told.proofs.TaskCells.all_kept.Tie as tie
@@ -44,8 +44,8 @@ returns-2 : tie.Need-returns-2 Inv-loop μ-loop
 returns-2 c =
     let x = c .before .before .before .before .before .args in
     let k = c .before .before .before .before .loop .k in
-    let there : 3 * k + 0 ≡ 3 * k = omega arith in
-    let other : ¬ (getD (now (x .cells)) (3 * k) 0 ≡ 0) = rw (← there) (λ e. omega (arith, c .if2 .taken, e)) in
+    let there : cellsOfTask * k + 0 ≡ cellsOfTask * k = omega arith in
+    let other : ¬ (getD (now (x .cells)) (cellsOfTask * k) 0 ≡ 0) = rw (← there) (λ e. omega (arith, c .if2 .taken, e)) in
     sym (not-kept (now (x .cells)) k (x .tasks) (omega arith) (other-code (now (x .cells)) k (omega arith) other))
 
 add-k : tie.Need-add-k Inv-loop μ-loop
@@ -58,8 +58,8 @@ loop-again : tie.Need-loop-again Inv-loop μ-loop
 loop-again c =
     let x = c .before .before .before .before .before .args in
     let k = c .before .before .before .before .loop .k in
-    let there : 3 * k + 0 ≡ 3 * k = omega arith in
-    let code : getD (now (x .cells)) (3 * k) 0 ≡ 0 = rw (← there) (omega (arith, c .if2 .left)) in
+    let there : cellsOfTask * k + 0 ≡ cellsOfTask * k = omega arith in
+    let code : getD (now (x .cells)) (cellsOfTask * k) 0 ≡ 0 = rw (← there) (omega (arith, c .if2 .left)) in
     let this = kept-here (now (x .cells)) k (omega arith) code in
     (omega arith, rw add-one (kept-next (now (x .cells)) k (c .before .before .before .before .loop .inv .1) this))
 

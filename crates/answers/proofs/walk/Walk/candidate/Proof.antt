@@ -6,6 +6,7 @@ use Prim.Native.Nat.{_-_}
 use Rattle.row.specs.Row.{tableOf}
 use Rattle.periods.specs.Charge.{imposed}
 use Rattle.analysis.specs.Rival.{Candidate, candidate?}
+use Rattle.answers.specs.Turn.{bestMeant}
 use Rattle.answers.proofs.Walks.{going-ends, candidate-yes, candidate-no, tested-true, tested-false}
 use Rattle.answers.proofs.walk.Walk.candidate.Statement.{statement}
 use Rattle.answers.proofs.walk.Walk.candidate.Tie as tie
@@ -26,7 +27,7 @@ turn-requires c κs =
 returns : tie.Need-returns
 returns c =
     let a = c .before .before .before .args in
-    rw (candidate-yes imposed (tableOf (now (a .work))) (a .s .u) (a .s .a) (a .m) (a .c) (a .budget - a .self .used) (a .self .best .0) (is (c .before)))
+    rw (candidate-yes imposed (tableOf (now (a .work))) (a .s .u) (a .s .a) (a .m) (a .c) (a .budget - a .self .used) (bestMeant (a .self .best)) (is (c .before)))
     (c .turn .ensures)
 
 returns-2 : tie.Need-returns-2

@@ -8,6 +8,8 @@ use denote.Ref.{now}
 use Rattle.row.specs.Row.{tableOf}
 use Rattle.periods.specs.Charge.{imposed}
 use Rattle.analysis.specs.Walk.{walkJobs}
+use Rattle.answers.specs.Turn.{bestMeant}
+use Rattle.answers.proofs.Instants.{jobs-few}
 use Rattle.answers.proofs.Walks.{Going, going-on, going-stops, going-ends, stays, jobs-next, jobs-none}
 use Rattle.answers.proofs.walk.Walk.jobs.Statement.{statement}
 use Rattle.answers.proofs.walk.Walk.jobs.Tie as tie
@@ -15,7 +17,7 @@ use Rattle.answers.proofs.walk.Walk.jobs.Tie as tie
 abbrev Inv-loop : tie.InvT-loop
 Inv-loop work s x jobs budget count state₀ n₀ state n =
     Going budget
-    (walkJobs imposed (tableOf work) (s .u) (s .a) (x .mode) (x .candidate) (jobs .0) 0 (budget - state₀ .used) (state₀ .best .0))
+    (walkJobs imposed (tableOf work) (s .u) (s .a) (x .mode) (x .candidate) (jobs .0) 0 (budget - state₀ .used) (bestMeant (state₀ .best)))
     (walkJobs imposed (tableOf work) (s .u) (s .a) (x .mode) (x .candidate) (jobs .0 - n) n)
     state
 
@@ -43,7 +45,10 @@ returns c =
     going-stops (c .before .before .before .loop .inv) next (c .before .job .ensures) (stays (c .before .job .result) (c .match .keys2))
 
 add-n : tie.Need-add-n Inv-loop μ-loop
-add-n c = omega arith
+add-n c =
+    let s = c .before .before .before .before .before .before in
+    let (lent, (subject, (turn, (lasts, within)))) = s .pre in
+    omega (arith, jobs-few (lent .table .kept) (subject .chosen .isTask) (s .args .x .candidate) (lasts .within))
 
 loop-less : tie.Need-loop-less Inv-loop μ-loop
 loop-less c = omega arith

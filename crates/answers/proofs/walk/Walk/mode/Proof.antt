@@ -10,7 +10,7 @@ use Rattle.table.specs.Table.{tasks}
 use Rattle.periods.specs.Charge.{imposed}
 use Rattle.analysis.specs.Rival.{Runs}
 use Rattle.analysis.specs.Walk.{walkTurns}
-use Rattle.answers.specs.Turn.{turnsFrom, modeTurns}
+use Rattle.answers.specs.Turn.{bestMeant, turnsFrom, modeTurns}
 use Rattle.answers.proofs.Walks.{Going, going-on, going-stops, going-ends, stays, candidates-next, candidates-none, mode-runs, mode-idle}
 use Rattle.answers.proofs.walk.Walk.mode.Statement.{statement}
 use Rattle.answers.proofs.walk.Walk.mode.Tie as tie
@@ -18,7 +18,7 @@ use Rattle.answers.proofs.walk.Walk.mode.Tie as tie
 abbrev Inv-loop : tie.InvT-loop
 Inv-loop work s m budget count state₀ c₀ state c =
     Going budget
-    (walkTurns imposed (tableOf work) (s .u) (s .a) (modeTurns (tableOf work) (s .u) (s .a) m) (budget - state₀ .used) (state₀ .best .0))
+    (walkTurns imposed (tableOf work) (s .u) (s .a) (modeTurns (tableOf work) (s .u) (s .a) m) (budget - state₀ .used) (bestMeant (state₀ .best)))
     (walkTurns imposed (tableOf work) (s .u) (s .a) (turnsFrom (tableOf work) (s .u) (s .a) m c (count - c)))
     state
 

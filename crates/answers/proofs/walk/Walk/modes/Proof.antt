@@ -10,6 +10,7 @@ use Rattle.table.specs.Table.{modes}
 use Rattle.periods.specs.Charge.{imposed}
 use Rattle.analysis.specs.Order.{walkOrder, runningModes}
 use Rattle.analysis.specs.Walk.{walkTurns}
+use Rattle.answers.specs.Turn.{bestMeant}
 use Rattle.answers.proofs.Walks.{Going, going-on, going-stops, going-ends, stays, modesFrom, modes-next, modes-none}
 use Rattle.answers.proofs.walk.Walk.modes.Statement.{statement}
 use Rattle.answers.proofs.walk.Walk.modes.Tie as tie
@@ -17,7 +18,7 @@ use Rattle.answers.proofs.walk.Walk.modes.Tie as tie
 abbrev Inv-loop : tie.InvT-loop
 Inv-loop work s budget count state₀ m₀ state m =
     Going budget
-    (walkTurns imposed (tableOf work) (s .u) (s .a) (walkOrder (tableOf work) (s .u) (s .a)) (budget - state₀ .used) (state₀ .best .0))
+    (walkTurns imposed (tableOf work) (s .u) (s .a) (walkOrder (tableOf work) (s .u) (s .a)) (budget - state₀ .used) (bestMeant (state₀ .best)))
     (walkTurns imposed (tableOf work) (s .u) (s .a) (modesFrom (tableOf work) (s .u) (s .a) m (count - m)))
     state
 

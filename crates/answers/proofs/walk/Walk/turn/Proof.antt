@@ -12,7 +12,7 @@ use Rattle.table.specs.Table.{Table}
 use Rattle.periods.specs.Charge.{imposed}
 use Rattle.analysis.specs.Bound.{lastJob, jobsTo, busy}
 use Rattle.analysis.specs.Walk.{walkJobs, walkTurn}
-use Rattle.answers.specs.Turn.{IsInstant, walked}
+use Rattle.answers.specs.Turn.{bestMeant, IsInstant, walked}
 use Rattle.answers.proofs.Chain.{Comes}
 use Rattle.answers.proofs.Instants.{instant-own, instant-first, instant-period, instant-phase, instant-last, instant-jobs, last-near, busy-comes}
 use Rattle.answers.proofs.Walks.{afterStop, turn-walked}
@@ -37,14 +37,14 @@ busy-chain-requires c κs =
     (lent, (subject, (own c, within)))
 
 -- one turn of the walk, by how the L chain stopped
-step : (c : tie.After-busy-chain) → let d = c .before .before in let a = d .args in let x = c .before .instant-of .result in walked (a .budget) (walkTurn imposed (tab d) (a .s .u) (a .s .a) (record { mode = a .m; candidate = a .c }) (a .budget - a .self .used) (a .self .best .0)) ≡ afterStop (λ L used. walked (a .budget) (walkJobs imposed (tab d) (a .s .u) (a .s .a) (x .mode) (x .candidate) (jobsTo (tab d) (a .s .u) (a .s .a) (x .candidate) (lastJob (tab d) (a .s .u) (a .s .a) (x .candidate) (L .0))) 0 (a .budget - used) (a .self .best .0))) (c .busy-chain .result)
+step : (c : tie.After-busy-chain) → let d = c .before .before in let a = d .args in let x = c .before .instant-of .result in walked (a .budget) (walkTurn imposed (tab d) (a .s .u) (a .s .a) (record { mode = a .m; candidate = a .c }) (a .budget - a .self .used) (bestMeant (a .self .best))) ≡ afterStop (λ L used. walked (a .budget) (walkJobs imposed (tab d) (a .s .u) (a .s .a) (x .mode) (x .candidate) (jobsTo (tab d) (a .s .u) (a .s .a) (x .candidate) (lastJob (tab d) (a .s .u) (a .s .a) (x .candidate) (L .0))) 0 (a .budget - used) (bestMeant (a .self .best)))) (c .busy-chain .result)
 step c =
     let d = c .before .before in
     let a = d .args in
     let x = c .before .instant-of .result in
     let turn = c .before .instant-of .ensures in
     rw (c .busy-chain .ensures, ← turn .mode, ← turn .candidate)
-    (turn-walked imposed (tab d) (a .s .u) (a .s .a) (a .budget) (x .mode) (x .candidate) (a .budget - a .self .used) (a .self .best .0) (omega arith))
+    (turn-walked imposed (tab d) (a .s .u) (a .s .a) (a .budget) (x .mode) (x .candidate) (a .budget - a .self .used) (bestMeant (a .self .best)) (omega arith))
 
 -- where t came back
 abbrev Back : tie.After-instant-of → ℕ → Type 0
