@@ -1,6 +1,9 @@
-// The listing in columns and words, for the table on standard input, and a last line over all tasks.
+// The listing in columns and words, for the table on standard input, with who pushed a task, and a last line over all tasks.
 use output::Verdict;
 use output::Words;
+use parts::Made;
+use parts::Part;
+use parts::Parts;
 use row::Table;
 use sumpcandle::Filled;
 use sumpcandle::TaskCells;
@@ -10,10 +13,13 @@ ghost use Prim.Native.Nat.{_+_, _^_, _<_};
 // More than any bound and any deadline: how far a task without a bound counts as above its deadline.
 const FAR: u64 = 4_294_967_296;
 
-// What is told of a task, with bound 0 where there is none, and its deadline.
+// What is told of a task, with bound 0 where there is none, who gave the bound, and its deadline.
 struct Line {
     code: u32,
     bound: u32,
+    mode: u32,
+    candidate: u32,
+    job: u32,
     deadline: u32,
 }
 
@@ -28,8 +34,12 @@ struct Summary {
     spare: u64,
 }
 
+fn ahead(x: u64, y: u64) -> u64 {
+    if y < x { x - y } else { 0 }
+}
+
 fn beyond(x: u32, y: u32) -> u64 {
-    if y < x { (x - y) as u64 } else { 0 }
+    ahead(x as u64, y as u64)
 }
 
 fn line_of(cells: &[u32; sumpcandle::CELLS], table: &[u32], k: usize) -> Line {
@@ -38,12 +48,18 @@ fn line_of(cells: &[u32; sumpcandle::CELLS], table: &[u32], k: usize) -> Line {
         return Line {
             code: TaskCells::KEPT,
             bound: TaskCells::NO_BOUND,
+            mode: TaskCells::NO_BOUND,
+            candidate: TaskCells::NO_BOUND,
+            job: TaskCells::NO_BOUND,
             deadline,
         };
     }
     Line {
         code: cells[TaskCells::COUNT * k + TaskCells::CODE_CELL],
         bound: cells[TaskCells::COUNT * k + TaskCells::BOUND_CELL],
+        mode: cells[TaskCells::COUNT * k + TaskCells::MODE_CELL],
+        candidate: cells[TaskCells::COUNT * k + TaskCells::CANDIDATE_CELL],
+        job: cells[TaskCells::COUNT * k + TaskCells::JOB_CELL],
         deadline,
     }
 }
@@ -159,7 +175,104 @@ fn meaning(whole: bool, line: Line) -> bool {
     )
 }
 
-fn task(whole: bool, words: Words, table: &[u32], k: usize, line: Line) -> bool {
+// The task that sets the critical instant, and its mode, behind a text.
+fn set_by(whole: bool, text: &[u8], task: u32, mode: u32, end: &[u8]) -> bool {
+    let whole = output::count(whole, text, task as u64, b" sets it in mode ");
+    output::count(whole, b"", mode as u64, end)
+}
+
+// Ticks in the column of the bounds.
+fn ticks(whole: bool, n: u64) -> bool {
+    output::grouped(output::say(whole, b"               "), n, 26)
+}
+
+// A part of the completion, left out where it is 0.
+fn part(whole: bool, n: u32, text: &[u8]) -> bool {
+    if n == 0 {
+        return whole;
+    }
+    output::say(ticks(whole, n as u64), text)
+}
+
+// What another transaction charges, if it has rivals.
+fn other(whole: bool, image: &[u8], k: u32, i: u32, completion: u32) -> bool {
+    let Part::Charged(charge) = sumpcandle::charge(image, k, i, false, completion) else {
+        return whole;
+    };
+    let whole = ticks(whole, charge.ticks);
+    let whole = output::count(whole, b"  transaction ", i as u64, b"");
+    set_by(
+        whole,
+        b", most when task ",
+        charge.candidate,
+        charge.mode,
+        b"\n",
+    )
+}
+
+fn others(whole: bool, image: &[u8], k: u32, count: u32, completion: u32) -> bool {
+    let mut whole = whole;
+    for i in 0..count {
+        whole = other(whole, image, k, i, completion);
+    }
+    whole
+}
+
+// How far from the instant the job arrived, on which side, and the bound that follows: completion − arrival + offset.
+fn arrived(whole: bool, by: u64, side: &[u8], sign: &[u8], of: Parts, bound: u32) -> bool {
+    let whole = output::count(whole, b"      arrived ", by, side);
+    let whole = output::count(whole, b" that instant, offset ", of.offset as u64, b": ");
+    let whole = output::count(whole, b"", of.completion as u64, sign);
+    let whole = output::count(whole, b"", by, b" + ");
+    let whole = output::count(whole, b"", of.offset as u64, b" = ");
+    output::count(whole, b"", bound as u64, b"\n")
+}
+
+// The arrival is completion + offset − bound.
+fn response(whole: bool, of: Parts, bound: u32) -> bool {
+    let end = of.completion as u64 + of.offset as u64;
+    let before = ahead(bound as u64, end);
+    if 0 < before {
+        return arrived(whole, before, b" before", b" + ", of, bound);
+    }
+    let after = ahead(end, bound as u64);
+    arrived(whole, after, b" after", b" - ", of, bound)
+}
+
+// What the bound of a task is made of, under its line: the parts add up to the completion.
+fn made_of(whole: bool, image: &[u8], table: &[u32], k: u32, line: Line, of: Parts) -> bool {
+    let t = of.completion;
+    let whole = output::count(
+        whole,
+        b"      completes ",
+        t as u64,
+        b" after the critical instant",
+    );
+    let whole = set_by(whole, b"; task ", line.candidate, line.mode, b":\n");
+    let whole = part(whole, of.blocking, b"  blocking\n");
+    let whole = output::count(
+        ticks(whole, of.jobs as u64),
+        b"  its own jobs (",
+        line.job as u64 + 1,
+        b")\n",
+    );
+    let whole = part(whole, of.rivals, b"  other tasks of its transaction\n");
+    let whole = others(whole, image, k, Table::transactions(table), t);
+    response(whole, of, line.bound)
+}
+
+fn made(whole: bool, image: &[u8], table: &[u32], k: usize, line: Line) -> bool {
+    if Table::TASKS <= k {
+        return whole;
+    }
+    let k = k as u32;
+    let Made::Of(of) = sumpcandle::parts(image, k, input::BUDGET) else {
+        return whole;
+    };
+    made_of(whole, image, table, k, line, of)
+}
+
+fn task(whole: bool, words: Words, image: &[u8], table: &[u32], k: usize, line: Line) -> bool {
     let kept = line.code == TaskCells::KEPT;
     let hidden = words.open & kept;
     if hidden {
@@ -167,11 +280,17 @@ fn task(whole: bool, words: Words, table: &[u32], k: usize, line: Line) -> bool 
     }
     let red = words.colour & !kept;
     let whole = columns(output::begin_line(whole, red), table, k, line);
-    output::end_line(meaning(whole, line), red)
+    let whole = output::end_line(meaning(whole, line), red);
+    let asked = words.all | !kept;
+    if asked {
+        return made(whole, image, table, k, line);
+    }
+    whole
 }
 
 fn every_task(
     words: Words,
+    image: &[u8],
     cells: &[u32; sumpcandle::CELLS],
     table: &[u32],
     tasks: usize,
@@ -186,7 +305,7 @@ fn every_task(
         );
     }
     for k in 0..tasks {
-        whole = task(whole, words, table, k, line_of(cells, table, k));
+        whole = task(whole, words, image, table, k, line_of(cells, table, k));
     }
     whole
 }
@@ -240,7 +359,7 @@ fn accepted(
     tasks: usize,
 ) {
     let s = over_all(cells, table, tasks);
-    let whole = every_task(words, cells, table, tasks, s.open);
+    let whole = every_task(words, image, cells, table, tasks, s.open);
     let worst = line_of(cells, table, s.worst);
     let whole = last_line(whole, words, tasks, s, worst);
     let verdict = if TaskCells::all_kept(cells, tasks) {
@@ -270,6 +389,7 @@ fn main() {
         Words {
             verdict: true,
             open: true,
+            all: true,
             colour: true,
             aligned: false,
         },

@@ -10,27 +10,15 @@ fn line(whole: bool, cells: &[u32; sumpcandle::CELLS], k: usize) -> bool {
     if Table::TASKS <= k {
         return whole;
     }
-    let whole = output::number(whole, k as u64, 0);
-    let whole = output::cell(
-        whole,
-        cells[TaskCells::COUNT * k + TaskCells::CODE_CELL],
-        false,
-    );
-    let whole = output::cell(
-        whole,
-        cells[TaskCells::COUNT * k + TaskCells::BOUND_CELL],
-        false,
-    );
-    let whole = output::cell(
-        whole,
-        cells[TaskCells::COUNT * k + TaskCells::EVALUATIONS_CELL],
-        false,
-    );
+    let mut whole = output::number(whole, k as u64, 0);
+    for i in 0..TaskCells::COUNT {
+        whole = output::cell(whole, cells[TaskCells::COUNT * k + i], false);
+    }
     output::say(whole, b"\n")
 }
 
 fn lines(cells: &[u32; sumpcandle::CELLS], tasks: usize) -> bool {
-    let mut whole = output::say(true, b"task code bound evaluations\n");
+    let mut whole = output::say(true, b"task code bound evaluations mode candidate job\n");
     for k in 0..tasks {
         whole = line(whole, cells, k);
     }
@@ -73,6 +61,7 @@ fn main() {
         Words {
             verdict: true,
             open: false,
+            all: false,
             colour: false,
             aligned: false,
         },

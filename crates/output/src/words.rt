@@ -8,6 +8,7 @@ const MOST: usize = 32;
 pub struct Words {
     pub verdict: bool,
     pub open: bool,
+    pub all: bool,
     pub colour: bool,
     pub aligned: bool,
 }
@@ -36,6 +37,7 @@ fn word(text: &[u8]) -> Words {
     Words {
         verdict: same(text, b"verdict"),
         open: same(text, b"open"),
+        all: same(text, b"all"),
         colour: same(text, b"colour"),
         aligned: same(text, b"aligned"),
     }
@@ -67,13 +69,18 @@ fn argument(name: &[u8], known: Words, i: usize) -> Asked {
 
 // Whether two sets of words have one in common.
 fn common(a: Words, b: Words) -> bool {
-    (a.verdict & b.verdict) | (a.open & b.open) | (a.colour & b.colour) | (a.aligned & b.aligned)
+    (a.verdict & b.verdict)
+        | (a.open & b.open)
+        | (a.all & b.all)
+        | (a.colour & b.colour)
+        | (a.aligned & b.aligned)
 }
 
 fn joined(a: Words, b: Words) -> Words {
     Words {
         verdict: a.verdict | b.verdict,
         open: a.open | b.open,
+        all: a.all | b.all,
         colour: a.colour | b.colour,
         aligned: a.aligned | b.aligned,
     }
@@ -84,6 +91,7 @@ pub(crate) fn given(name: &[u8], known: Words) -> Asked {
     let mut all = Words {
         verdict: false,
         open: false,
+        all: false,
         colour: false,
         aligned: false,
     };

@@ -76,6 +76,7 @@ fn main() {
         Words {
             verdict: true,
             open: false,
+            all: false,
             colour: false,
             aligned: true,
         },

@@ -5,10 +5,10 @@ use Rattle.explain.proofs.every_task.Statement.{statement}
 use Rattle.explain.proofs.every_task.Tie as tie
 
 abbrev Inv-loop : tie.InvT-loop
-Inv-loop words cells table tasks «open» whole₀ shown k₀ whole k = k ≤ tasks
+Inv-loop words image cells table tasks «open» whole₀ shown k₀ whole k = k ≤ tasks
 
 abbrev μ-loop : tie.MeasureT-loop
-μ-loop words cells table tasks «open» whole₀ shown k₀ whole k = tasks - k
+μ-loop words image cells table tasks «open» whole₀ shown k₀ whole k = tasks - k
 
 slice-aggregate-say : tie.Need-slice-aggregate-say Inv-loop μ-loop
 slice-aggregate-say c = search needs
