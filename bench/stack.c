@@ -1,8 +1,8 @@
 /* How many bytes of stack one call of a function of sumpcandle.h takes: they are called on a stack of a known pattern, and so
    is a function that does nothing; the difference of what the two leave changed is printed.
 
-   stack FILE...    asks for every task of each image, reads it into cells and writes these, and prints the greatest; status 1
-                    where it is above SUMPCANDLE_STACK */
+   stack FILE...    asks for every task of each image and who pushed it, reads the image into cells and writes these, and prints the
+                    greatest; status 1 where it is above SUMPCANDLE_STACK */
 
 #define _POSIX_C_SOURCE 200809L
 
@@ -18,6 +18,8 @@ enum { SIZE = 1 << 20, ROOM = SUMPCANDLE_LONGEST + 1, BUDGET = 2000, PATTERN = 0
 
 static uint8_t image[ROOM], written[SUMPCANDLE_LONGEST];
 static uint32_t cells[SUMPCANDLE_TABLE_CELLS];
+static int64_t parts[SUMPCANDLE_PARTS_CELLS];
+static uint64_t charge[SUMPCANDLE_CHARGE_CELLS];
 static size_t length;
 
 static void *nothing(void *task) { return task; }
@@ -27,7 +29,15 @@ static void *asks(void *task) {
         if (!sumpcandle_is_code(sumpcandle_response(image, length, k, BUDGET))) {
             break;
         }
+        sumpcandle_parts(image, length, k, BUDGET, parts);
+        /* one of the two transactions is not the task's own */
+        for (uint32_t i = 0; i < 2; i++) {
+            sumpcandle_part(image, length, k, BUDGET, i, charge);
+            sumpcandle_charge(image, length, k, i, 1, BUDGET, charge);
+        }
     }
+    static uint32_t results[SUMPCANDLE_TASKS * SUMPCANDLE_RESULT_CELLS];
+    sumpcandle_cells(image, length, BUDGET, results, sizeof results / sizeof *results);
     sumpcandle_read(image, length, cells);
     sumpcandle_write(cells, written, SUMPCANDLE_LONGEST);
     return task;

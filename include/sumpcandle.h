@@ -1,5 +1,6 @@
-/* Sumpcandle for a host in C. Three calls: sumpcandle_response answers for one task of a bit-packed task table, the image,
-   with its worst-case response bound; sumpcandle_read gives the table of an image as a row of numbers, the cells;
+/* Sumpcandle for a host in C. Seven calls: sumpcandle_response answers for one task of a bit-packed task table, the image,
+   with its worst-case response bound; sumpcandle_cells for every task, with who gave its bound; sumpcandle_parts, sumpcandle_part and sumpcandle_charge say who pushed the task: what its
+   bound is made of, and who charged it; sumpcandle_read gives the table of an image as a row of numbers, the cells;
    sumpcandle_write makes the image of a table in cells.
 
    For each of them the caller owes: the pointers are never NULL, also where `length` is 0, and point to as much memory as
@@ -28,6 +29,58 @@ extern "C" {
    what one of them costs. */
 uint64_t sumpcandle_response(const uint8_t *image, size_t length, uint32_t task, uint32_t budget);
 
+/* The answers for every task, into cells: SUMPCANDLE_RESULT_CELLS for each task, in the order of their numbers, from task k's first at
+   k * SUMPCANDLE_RESULT_CELLS. The budget holds for each task afresh.
+
+   Upper 32 bits: 0, or a refusal, 1 to 12. Lower 32 bits: with a refusal of the image its place, a bit position; else 0. With 0 every
+   task of the table has its cells, and the cells behind them stay as they were. With a refusal every cell stays as it was.
+
+   `image` points to `length` bytes, `cells` to `count` cells, at an address that is a multiple of 4. SUMPCANDLE_TASKS *
+   SUMPCANDLE_RESULT_CELLS of them are enough for any table. */
+uint64_t sumpcandle_cells(const uint8_t *image, size_t length, uint32_t budget, uint32_t *cells, size_t count);
+
+/* Who pushed a task: what the bound that sumpcandle_response gives is made of, into cells.
+
+   Upper 32 bits: 0, or a refusal, 1 to 11 or 13. Lower 32 bits: with 0 a case, SUMPCANDLE_GIVEN or SUMPCANDLE_NO_BOUND; with a
+   refusal of the image its place, a bit position; else 0. With SUMPCANDLE_GIVEN, so where the answer is 0, every one of the
+   SUMPCANDLE_PARTS_CELLS cells is written. Else every cell stays as it was.
+
+   The parts are given where sumpcandle_response gives a bound for that budget, and
+
+       bound = completion - arrival + offset
+       completion = blocking + own jobs + own rivals + the greatest charge of each other transaction, imposed until the completion
+
+   A caller who wants all of them asks sumpcandle_parts once, and for each other transaction sumpcandle_charge, with `whole` 0
+   and the completion for `t`.
+
+   `image` points to `length` bytes, `cells` to SUMPCANDLE_PARTS_CELLS cells, at an address that is a multiple of 8. The time of a
+   call is about that of sumpcandle_response. */
+uint64_t sumpcandle_parts(const uint8_t *image, size_t length, uint32_t task, uint32_t budget, int64_t *cells);
+
+/* The part of one other transaction in that bound: the charge, the mode and the candidate that sumpcandle_charge gives at the
+   completion, into cells. Transactions are numbered from 0, in image order.
+
+   Upper 32 bits: 0, or a refusal, 1 to 11 or 13. Lower 32 bits: with 0 a case, one of those below; with a refusal of the image
+   its place, a bit position; else 0. With SUMPCANDLE_GIVEN, so where the answer is 0, every one of the SUMPCANDLE_CHARGE_CELLS
+   cells is written. Else every cell stays as it was. A task without a bound has SUMPCANDLE_NO_BOUND for every transaction.
+
+   `image` points to `length` bytes, `cells` to SUMPCANDLE_CHARGE_CELLS cells, at an address that is a multiple of 8. Each call
+   walks through the task's candidates anew, and takes about the time of sumpcandle_response. */
+uint64_t sumpcandle_part(const uint8_t *image, size_t length, uint32_t task, uint32_t budget, uint32_t transaction,
+                         uint64_t *cells);
+
+/* The greatest charge of one other transaction against a task until `t` ticks after the critical instant, with the mode and the
+   candidate that give it, into cells. With `whole` 0 it is the imposed charge, of which completions are made; else the released
+   one, where a job is charged whole from its release on, of which busy lengths are made.
+
+   Where several give the greatest charge, the least mode counts, and in it the first candidate in image order. Where there are
+   rivals one is named, also if it charges 0, as with `t` 0.
+
+   The answer and the cells are as those of sumpcandle_part, but SUMPCANDLE_NO_BOUND is never given: the task need not have a
+   bound, and no evaluation is made. */
+uint64_t sumpcandle_charge(const uint8_t *image, size_t length, uint32_t task, uint32_t transaction, uint32_t whole, uint32_t t,
+                           uint64_t *cells);
+
 /* The table of an image, into cells.
 
    Upper 32 bits: 0, or a refusal, 1 to 11. Lower 32 bits: the place of the refusal, a bit position; else 0. With 0 every one
@@ -55,9 +108,49 @@ uint64_t sumpcandle_write(const uint32_t *cells, uint8_t *buffer, size_t length)
 /* The longest image, in bytes. */
 #define SUMPCANDLE_LONGEST 2521
 
-/* Bytes of stack to leave for a call, beside what a thread needs of its own. Not proved: bench/stack.c measured 32,304 over the
+/* Bytes of stack to leave for a call, beside what a thread needs of its own. Not proved: bench/stack.c measured 32,112 over the
    samples, and the gate fails where it measures more than this. */
 #define SUMPCANDLE_STACK 36864
+
+/* The cells of a task of sumpcandle_cells. */
+#define SUMPCANDLE_RESULT_CELLS 6
+enum {
+    SUMPCANDLE_RESULT_CODE = 0,        /* SUMPCANDLE_IN_TIME, or 20 to 23 */
+    SUMPCANDLE_RESULT_BOUND = 1,       /* in ticks; this and those below but the evaluations are 0 without a bound */
+    SUMPCANDLE_RESULT_EVALUATIONS = 2, /* that were made */
+    SUMPCANDLE_RESULT_MODE = 3,        /* the first mode, candidate and job that give the bound: the mode, from 0 */
+    SUMPCANDLE_RESULT_CANDIDATE = 4,   /* the number of the task that sets the critical instant */
+    SUMPCANDLE_RESULT_JOB = 5          /* which of the queued jobs, from 0 */
+};
+
+/* The cells of sumpcandle_parts, in ticks. The critical instant is 0: a job that was held back to it arrived before, and its
+   arrival is negative. */
+#define SUMPCANDLE_PARTS_CELLS 6
+enum {
+    SUMPCANDLE_PARTS_COMPLETION = 0, /* of the job that gives the bound */
+    SUMPCANDLE_PARTS_ARRIVAL = 1,    /* of that job */
+    SUMPCANDLE_PARTS_OFFSET = 2,     /* of the task: that much before the arrival was the event */
+    SUMPCANDLE_PARTS_BLOCKING = 3,   /* of the task */
+    SUMPCANDLE_PARTS_JOBS = 4,       /* charged by the task's own jobs, up to the one that gives the bound */
+    SUMPCANDLE_PARTS_RIVALS = 5      /* charged by its rivals in its own transaction until the completion */
+};
+
+/* The cells of sumpcandle_part and sumpcandle_charge. */
+#define SUMPCANDLE_CHARGE_CELLS 3
+enum {
+    SUMPCANDLE_CHARGE_TICKS = 0,    /* may need more than 32 bits, but not up to a completion */
+    SUMPCANDLE_CHARGE_MODE = 1,     /* from 0 */
+    SUMPCANDLE_CHARGE_CANDIDATE = 2 /* the number of the task that sets the critical instant, as for sumpcandle_response */
+};
+
+/* Cases: the lower half of an answer of sumpcandle_parts, sumpcandle_part or sumpcandle_charge whose upper half is 0. */
+enum {
+    SUMPCANDLE_GIVEN = 0,          /* the cells are written */
+    SUMPCANDLE_NO_BOUND = 1,       /* the task has no bound: sumpcandle_response says why */
+    SUMPCANDLE_OWN = 2,            /* it is the task's own transaction, whose part sumpcandle_parts tells */
+    SUMPCANDLE_NO_TRANSACTION = 3, /* there is no transaction of that number */
+    SUMPCANDLE_NO_RIVALS = 4       /* none of its tasks is a rival: it charges 0, and names none */
+};
 
 /* The cells of a table: those of the header, then those of each transaction, then those of each task, in image order. There
    is room for SUMPCANDLE_TRANSACTIONS transactions and SUMPCANDLE_TASKS tasks, each with a time for SUMPCANDLE_MODES modes.
@@ -147,6 +240,7 @@ enum {
     SUMPCANDLE_NO_TIME = 9,           /* a task with time 0 in every mode */
     SUMPCANDLE_PADDING = 10,          /* a padding bit is 1 */
     SUMPCANDLE_BYTES_FOLLOW = 11,     /* bytes follow the table */
+    SUMPCANDLE_NO_ROOM = 12,          /* the image is good, and there are fewer cells than its tasks need */
     SUMPCANDLE_NO_TASK = 13,          /* the image is good and has no task of that number */
     SUMPCANDLE_TOO_LARGE = 29,        /* a number of the table is too large for its field */
     SUMPCANDLE_BUFFER_SHORT = 30      /* the table is good, and its image is longer than the buffer */
@@ -155,7 +249,7 @@ enum {
 /* The upper half of an answer: a code or a refusal, or 0. */
 static inline uint32_t sumpcandle_number(uint64_t answer) { return (uint32_t)(answer >> 32); }
 
-/* The lower half of an answer: a bound, a length or a place. */
+/* The lower half of an answer: a bound, a length, a case or a place. */
 static inline uint32_t sumpcandle_value(uint64_t answer) { return (uint32_t)answer; }
 
 /* Whether an answer of sumpcandle_response has a code, and not a refusal: 0 or 20 to 23. */
