@@ -37,7 +37,7 @@ struct walk {
     int active[TRANSACTIONS]; /* the other transactions that have a rival */
     int active_count;
     uint32_t budget, evaluations;
-    int64_t greatest;
+    struct greatest greatest;
 };
 
 static void tabulate(const struct table *table) {
@@ -208,7 +208,9 @@ static uint32_t walk_candidate(struct walk *walk, int c, const int *numbers) {
         if (code != BOUNDED) return code;
         int64_t arrival = walk->phase + ((int64_t)k - walk->held - 1) * walk->period;
         int64_t response = end - arrival + walk->table->offset[walk->a];
-        walk->greatest = response > walk->greatest ? response : walk->greatest;
+        if (response > walk->greatest.response) {
+            walk->greatest = (struct greatest){response, (uint32_t)walk->mode, (uint32_t)c, (uint32_t)(k - 1)};
+        }
     }
     return BOUNDED;
 }
@@ -228,7 +230,7 @@ static uint32_t walk_task(struct walk *walk) {
             if (code != BOUNDED) return code;
         }
     }
-    return walk->greatest > table->deadline[a] ? LATE : BOUNDED;
+    return walk->greatest.response > table->deadline[a] ? LATE : BOUNDED;
 }
 
 static int is_overloaded(const struct table *table, int a) {
@@ -259,10 +261,8 @@ void analyse(const struct table *table, uint32_t budget, struct cells *cells) {
         walk.blocking = (int32_t)table->blocking[a];
         walk.budget = budget;
         walk.evaluations = 0;
-        walk.greatest = 0;
+        walk.greatest.response = 0;
         uint32_t code = is_overloaded(table, a) ? OVERLOAD : walk_task(&walk);
-        cells[a].code = code;
-        cells[a].bound = code == BOUNDED || code == LATE ? (uint32_t)walk.greatest : 0;
-        cells[a].evaluations = walk.evaluations;
+        cells[a] = cells_of(code, walk.evaluations, &walk.greatest);
     }
 }

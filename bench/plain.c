@@ -12,7 +12,7 @@ struct walk {
     const struct table *table;
     int a, mode, candidate;
     uint32_t budget, evaluations;
-    int64_t greatest;
+    struct greatest greatest;
 };
 
 static int64_t phase(const struct table *table, int j, int c) {
@@ -118,7 +118,10 @@ static uint32_t walk_candidate(struct walk *walk) {
         code = completion(walk, own, &end);
         if (code != BOUNDED) return code;
         int64_t response = end - (f + (job - 1) * period) + table->offset[a];
-        if (response > walk->greatest) walk->greatest = response;
+        if (response > walk->greatest.response) {
+            uint32_t mode = (uint32_t)walk->mode, candidate = (uint32_t)walk->candidate;
+            walk->greatest = (struct greatest){response, mode, candidate, (uint32_t)(job - first_job)};
+        }
     }
     return BOUNDED;
 }
@@ -152,15 +155,13 @@ static uint32_t walk_task(struct walk *walk) {
             if (code != BOUNDED) return code;
         }
     }
-    return walk->greatest > table->deadline[walk->a] ? LATE : BOUNDED;
+    return walk->greatest.response > table->deadline[walk->a] ? LATE : BOUNDED;
 }
 
 void analyse(const struct table *table, uint32_t budget, struct cells *cells) {
     for (int a = 0; a < table->tasks; a++) {
-        struct walk walk = {table, a, 0, 0, budget, 0, 0};
+        struct walk walk = {table, a, 0, 0, budget, 0, {0, 0, 0, 0}};
         uint32_t code = is_overloaded(table, a) ? OVERLOAD : walk_task(&walk);
-        cells[a].code = code;
-        cells[a].bound = code == BOUNDED || code == LATE ? (uint32_t)walk.greatest : 0;
-        cells[a].evaluations = walk.evaluations;
+        cells[a] = cells_of(code, walk.evaluations, &walk.greatest);
     }
 }

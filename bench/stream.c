@@ -1,5 +1,5 @@
-/* Reads a stream of cases from standard input and prints a line for each, as the second program's `answer` does. Linked
-   with one of plain.c and fast.c. */
+/* Reads a stream of cases, all for cells, from standard input and prints a line for each, as the second program's
+   `answer` does. Linked with one of plain.c and fast.c. */
 
 #include "stream.h"
 
@@ -95,7 +95,9 @@ int main(void) {
         analyse(&table, budget, cells);
         fputs("accepted", stdout);
         for (int j = 0; j < table.tasks; j++) {
-            printf(" %u %u %u", (unsigned)cells[j].code, (unsigned)cells[j].bound, (unsigned)cells[j].evaluations);
+            const struct cells *each = &cells[j];
+            printf(" %u %u %u %u %u %u", (unsigned)each->code, (unsigned)each->bound, (unsigned)each->evaluations,
+                   (unsigned)each->mode, (unsigned)each->candidate, (unsigned)each->job);
         }
         putchar('\n');
     }

@@ -27,11 +27,33 @@ struct table {
     int64_t time[TASKS][MODES];
 };
 
+/* The last three say where the bound comes from, and are 0 without one. */
 struct cells {
     uint32_t code;
     uint32_t bound;
     uint32_t evaluations;
+    uint32_t mode;
+    uint32_t candidate; /* its number in the whole table */
+    uint32_t job;       /* its number minus that of the candidate's first */
 };
+
+/* The greatest response of a walk so far, and the first in it that gives that: later ones count only if they are
+   greater. Every walk has a response of at least 1. */
+struct greatest {
+    int64_t response;
+    uint32_t mode, candidate, job;
+};
+
+static inline struct cells cells_of(uint32_t code, uint32_t evaluations, const struct greatest *greatest) {
+    struct cells cells = {code, 0, evaluations, 0, 0, 0};
+    if (code == BOUNDED || code == LATE) {
+        cells.bound = (uint32_t)greatest->response;
+        cells.mode = greatest->mode;
+        cells.candidate = greatest->candidate;
+        cells.job = greatest->job;
+    }
+    return cells;
+}
 
 /* The cells of every task. */
 void analyse(const struct table *table, uint32_t budget, struct cells *cells);

@@ -1,15 +1,29 @@
-//! The section 'Bound': overload, busy lengths, completions, responses, and the count of evaluations.
+//! The section 'Bound': overload, busy lengths, completions, responses, and the count of evaluations; and 'the bound with
+//! its mode, candidate and job number' of document 02.
 
 use crate::interference::{ceil_div, held, phase, Charging, Fixed};
+use crate::parts::parts;
 use crate::table::Table;
 
 /// What a task gets: its bound, or why it has none.
 #[derive(Clone, Copy, Debug, PartialEq, Eq)]
 pub enum Outcome {
-    Bounded(i64),
+    Bounded(Bound),
     Overload,
     PastHorizon,
     BudgetSpent,
+}
+
+/// The greatest response, and the first in the walk that gives it: job p in the chains of candidate c of u in a mode.
+#[derive(Clone, Copy, Debug, PartialEq, Eq)]
+pub struct Bound {
+    pub response: i64,
+    pub mode: usize,
+    pub c: usize,
+    /// p, and p0 of that candidate.
+    pub job: i64,
+    pub first_job: i64,
+    pub completion: i64,
 }
 
 /// The end of one task's analysis.
@@ -36,7 +50,7 @@ pub enum Step {
 struct Walk<'w> {
     budget: u32,
     evaluations: u32,
-    greatest: Option<i64>,
+    greatest: Option<Bound>,
     watch: &'w mut dyn FnMut(Step),
 }
 
@@ -89,7 +103,10 @@ impl Walk<'_> {
             // 'Response of job p: w − (F + (p − 1)·T) + O, a signed number.'
             let response = completion - (own_phase + (job - 1) * period) + a.offset;
             (self.watch)(Step::Response { job, completion, response });
-            self.greatest = self.greatest.max(Some(response));
+            // 'On ties the first in the walk order counts.'
+            if self.greatest.is_none_or(|so_far| response > so_far.response) {
+                self.greatest = Some(Bound { response, mode, c, job, first_job, completion });
+            }
         }
         Ok(())
     }
@@ -139,7 +156,7 @@ pub fn analyse(fixed: &Fixed, charging: Charging, budget: u32) -> Verdict {
     watched(fixed, charging, budget, &mut |_| ())
 }
 
-/// The same, telling each step of the walk.
+/// The same, telling each step of the walk. The parts of every bound are checked to add up to it.
 pub fn watched(fixed: &Fixed, charging: Charging, budget: u32, watch: &mut dyn FnMut(Step)) -> Verdict {
     let mut walk = Walk { budget, evaluations: 0, greatest: None, watch };
     let outcome = if frame_demand(fixed) > fixed.table.frame {
@@ -150,5 +167,8 @@ pub fn watched(fixed: &Fixed, charging: Charging, budget: u32, watch: &mut dyn F
             Ok(()) => Outcome::Bounded(walk.greatest.expect("a as its own candidate has a job")),
         }
     };
+    if let Outcome::Bounded(bound) = outcome {
+        parts(fixed, charging, bound).check(bound);
+    }
     Verdict { outcome, evaluations: walk.evaluations }
 }

@@ -1,9 +1,10 @@
 //! Comparing another program with this one, case by case, over the stream.
 
-use crate::answer::{answer, line, Cells};
-use crate::generate::{case, Case};
+use crate::answer::{answered, Answer, Cells};
+use crate::generate;
 use crate::image::Refusal;
-use crate::stream;
+use crate::parts::Charge;
+use crate::stream::{self, Asked};
 use std::collections::BTreeMap;
 use std::ffi::OsString;
 use std::fmt::{self, Display};
@@ -17,25 +18,30 @@ pub struct Plan {
     pub program: Vec<OsString>,
 }
 
-/// What is compared over a stream: its cases, and our own line for each. Shown, it says how often each answer came.
+/// What is compared over a stream: its cases, and our own lines for each. Shown, it says how often each answer came.
 pub trait Compared: Default + Display {
     type Case;
     /// Case `index` of a seed depends on nothing else.
     fn case(seed: u64, index: u64) -> Self::Case;
     fn encoded(case: &Self::Case) -> Vec<u8>;
-    /// The line of a case, counted.
+    /// The lines of a case, counted.
     fn answered(&mut self, case: &Self::Case) -> String;
     /// All that a case holds, for a reader.
     fn told(case: &Self::Case) -> String;
 }
 
-/// How often each answer came: refusals by case, codes by task.
+/// How often each answer came: refusals and charges by case, codes by task, and of the bounds those that come from a mode
+/// above 0, from another candidate than the task itself, or from a later job than the first.
 #[derive(Default)]
 pub struct Counts {
     refused: BTreeMap<u32, u64>,
     accepted: u64,
     codes: BTreeMap<u32, u64>,
     evaluations: u64,
+    other_modes: u64,
+    other_candidates: u64,
+    later_jobs: u64,
+    charges: BTreeMap<&'static str, u64>,
 }
 
 impl Counts {
@@ -44,34 +50,83 @@ impl Counts {
             Err(refusal) => *self.refused.entry(refusal.number).or_default() += 1,
             Ok(row) => {
                 self.accepted += 1;
-                for cells in row {
+                for (number, cells) in row.iter().enumerate() {
                     *self.codes.entry(cells.code).or_default() += 1;
                     self.evaluations += cells.evaluations as u64;
+                    self.other_modes += (cells.mode > 0) as u64;
+                    self.other_candidates += (cells.bound > 0 && cells.candidate != number as u32) as u64;
+                    self.later_jobs += (cells.job > 0) as u64;
                 }
             }
         }
     }
+
+    fn add_charge(&mut self, answer: &Result<Charge, Refusal>) {
+        let name = match answer {
+            Err(refusal) => return *self.refused.entry(refusal.number).or_default() += 1,
+            Ok(Charge::Missing) => "no such transaction",
+            Ok(Charge::Own) => "own transaction",
+            Ok(Charge::Nobody) => "no rival",
+            Ok(Charge::Greatest(greatest)) if greatest.charge == 0 => "charge 0, named",
+            Ok(Charge::Greatest(_)) => "charge above 0",
+        };
+        *self.charges.entry(name).or_default() += 1;
+    }
 }
 
 impl Compared for Counts {
-    type Case = Case;
+    type Case = Asked;
 
-    fn case(seed: u64, index: u64) -> Case {
-        case(seed, index)
+    fn case(seed: u64, index: u64) -> Asked {
+        generate::case(seed, index).asked()
     }
 
-    fn encoded(case: &Case) -> Vec<u8> {
+    fn encoded(case: &Asked) -> Vec<u8> {
         stream::encoded(case)
     }
 
-    fn answered(&mut self, case: &Case) -> String {
-        let answer = answer(&case.image, case.budget);
-        self.add(&answer);
-        line(&answer)
+    fn answered(&mut self, case: &Asked) -> String {
+        let (answer, text) = answered(case);
+        match &answer {
+            Answer::Cells(answer) => self.add(answer),
+            Answer::Charge(charge) => self.add_charge(charge),
+        }
+        text
     }
 
-    fn told(case: &Case) -> String {
-        format!("budget {}\nimage {}", case.budget, hex(&case.image))
+    fn told(case: &Asked) -> String {
+        let Asked { question, image } = case;
+        format!("{question}\nimage {}", hex(image))
+    }
+}
+
+/// The same over cases of all kinds.
+#[derive(Default)]
+pub struct Who(Counts);
+
+impl Compared for Who {
+    type Case = Asked;
+
+    fn case(seed: u64, index: u64) -> Asked {
+        generate::who::asked(seed, index)
+    }
+
+    fn encoded(case: &Asked) -> Vec<u8> {
+        Counts::encoded(case)
+    }
+
+    fn answered(&mut self, case: &Asked) -> String {
+        self.0.answered(case)
+    }
+
+    fn told(case: &Asked) -> String {
+        Counts::told(case)
+    }
+}
+
+impl Display for Who {
+    fn fmt(&self, out: &mut fmt::Formatter) -> fmt::Result {
+        self.0.fmt(out)
     }
 }
 
@@ -86,6 +141,13 @@ impl Display for Counts {
         }
         if !self.codes.is_empty() {
             writeln!(out, "evaluations: {}", self.evaluations)?;
+            let Counts { other_modes, other_candidates, later_jobs, .. } = self;
+            writeln!(out, "bounds from a mode above 0: {other_modes}")?;
+            writeln!(out, "bounds from another candidate: {other_candidates}")?;
+            writeln!(out, "bounds from a later job: {later_jobs}")?;
+        }
+        for (name, count) in &self.charges {
+            writeln!(out, "{name}: {count} images")?;
         }
         Ok(())
     }
@@ -121,22 +183,23 @@ fn batch<C: Compared>(
     }
     let mut lines = theirs.stdout.split_inclusive(|&byte| byte == b'\n');
     for (index, case) in (from..to).zip(&cases) {
-        let line = counts.answered(case);
-        let their_line = lines.next().unwrap_or(b"");
-        if their_line != line.as_bytes() {
-            let their_line = String::from_utf8_lossy(their_line);
-            return Ok(Some(format!(
-                "difference at seed {} case {index} {}\nsecond  {line}program {}\n",
-                plan.seed,
-                C::told(case),
-                their_line.trim_end_matches('\n'),
-            )));
+        for line in counts.answered(case).split_inclusive('\n') {
+            let their_line = lines.next().unwrap_or(b"");
+            if their_line != line.as_bytes() {
+                let their_line = String::from_utf8_lossy(their_line);
+                return Ok(Some(format!(
+                    "difference at seed {} case {index} {}\nsecond  {line}program {}\n",
+                    plan.seed,
+                    C::told(case),
+                    their_line.trim_end_matches('\n'),
+                )));
+            }
         }
         watch(index + 1);
     }
     Ok(lines.next().map(|_| {
         let last = to - 1;
-        format!("difference at seed {} after case {last}: the program prints more lines than cases\n", plan.seed)
+        format!("difference at seed {} after case {last}: the program prints more lines than it should\n", plan.seed)
     }))
 }
 

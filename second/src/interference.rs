@@ -55,8 +55,8 @@ pub struct Fixed<'t> {
     pub a: usize,
 }
 
-/// The greatest charge of a transaction, and where it comes from.
-#[derive(Clone, Copy)]
+/// The greatest charge of a transaction, and where it comes from: candidate c of that transaction in a mode.
+#[derive(Clone, Copy, Debug, PartialEq, Eq)]
 pub struct Greatest {
     pub charge: i64,
     pub mode: usize,
@@ -89,7 +89,7 @@ impl<'t> Fixed<'t> {
     }
 
     /// 'A transaction's charge for (c, mode) sums its rivals.'
-    fn charge(&self, charging: Charging, v: usize, c: usize, mode: usize, t: i64) -> i64 {
+    pub fn charge(&self, charging: Charging, v: usize, c: usize, mode: usize, t: i64) -> i64 {
         let transaction = &self.table.transactions[v];
         let period = transaction.period;
         let mut sum = 0;
@@ -109,7 +109,7 @@ impl<'t> Fixed<'t> {
         self.greatest(charging, v, t).map_or(0, |greatest| greatest.charge)
     }
 
-    /// That charge, with the first mode and candidate that give it.
+    /// That charge, 'with the mode and candidate that gave it', the first of them; 'without rivals it names none'.
     pub fn greatest(&self, charging: Charging, v: usize, t: i64) -> Option<Greatest> {
         let transaction = &self.table.transactions[v];
         let mut greatest: Option<Greatest> = None;

@@ -10,6 +10,7 @@ mod draft;
 mod generate;
 mod image;
 mod interference;
+mod parts;
 mod progress;
 mod random;
 mod simulate;
@@ -22,7 +23,7 @@ mod write;
 use arguments::{needed, Arguments};
 use interference::Charging;
 use progress::Progress;
-use std::ffi::OsStr;
+use std::ffi::{OsStr, OsString};
 use std::fmt::Display;
 use std::fs::File;
 use std::io::{self, BufWriter, Read, Write};
@@ -33,12 +34,14 @@ const HELP: &str = "usage:
   second list                                  one image on stdin: the listing
   second whole                                 the same with the whole-job bound
   second host TASK BUDGET                      one image on stdin: the host's 64-bit number
-  second answer                                a stream of cases on stdin: one line for each
-  second generate --cases N --seed S           a stream of cases on stdout
-  second compare --cases N --seed S [--batch K] --program COMMAND...
+  second answer                                a stream of cases on stdin: the lines of each
+  second generate --cases N --seed S [--who]   a stream of cases on stdout, all of them for cells; with --who also for the
+                                               parts of bounds and for greatest charges
+  second compare --cases N --seed S [--who] [--batch K] --program COMMAND...
                                                compare COMMAND's lines with our own
-  second words [--open]                        one image on stdin: what explain says of it, with --open only of the
-                                               tasks that are not shown to be in time
+  second words [--open] [--all]                one image on stdin: what explain says of it, with --open only of the
+                                               tasks that are not shown to be in time, with --all what every bound
+                                               is made of
   second show [--aligned]                      one image on stdin: its table as text
   second words --cases N --seed S --program COMMAND...
   second show --cases N --seed S --program COMMAND...
@@ -127,12 +130,24 @@ fn run(command: &str, mut arguments: Arguments) -> Result<End, Trouble> {
         }
         "generate" => {
             let (cases, seed) = (arguments.number("--cases")?, arguments.number("--seed")?);
+            let with_who = arguments.flag("--who");
             arguments.end()?;
-            generate_stream(cases, seed)
+            if with_who {
+                generate_stream::<compare::Who>(cases, seed)
+            } else {
+                generate_stream::<compare::Counts>(cases, seed)
+            }
         }
-        "compare" => stream_compared::<compare::Counts>(arguments),
+        "compare" => {
+            let program = arguments.program()?;
+            if arguments.flag("--who") {
+                stream_compared::<compare::Who>(program, arguments)
+            } else {
+                stream_compared::<compare::Counts>(program, arguments)
+            }
+        }
         "write" if arguments.rest.is_empty() => write_stream(),
-        "write" => stream_compared::<write::compare::Counts>(arguments),
+        "write" => stream_compared::<write::compare::Counts>(arguments.program()?, arguments),
         "words" => text(desk::Text::Words, arguments),
         "show" => text(desk::Text::Show, arguments),
         "simulate" => {
@@ -150,8 +165,7 @@ fn run(command: &str, mut arguments: Arguments) -> Result<End, Trouble> {
 }
 
 /// A comparison over a stream of cases.
-fn stream_compared<C: compare::Compared>(mut arguments: Arguments) -> Result<End, Trouble> {
-    let program = arguments.program()?;
+fn stream_compared<C: compare::Compared>(program: Vec<OsString>, mut arguments: Arguments) -> Result<End, Trouble> {
     let (cases, seed) = (arguments.number("--cases")?, arguments.number("--seed")?);
     let batch = arguments.number_if_given("--batch")?.unwrap_or(1000).max(1);
     arguments.end()?;
@@ -165,9 +179,10 @@ fn text(text: desk::Text, mut arguments: Arguments) -> Result<End, Trouble> {
     let program = arguments.program_if_given()?;
     let (cases, seed) = (arguments.number_if_given("--cases")?, arguments.number_if_given("--seed")?);
     if program.is_none() && cases.is_none() && seed.is_none() {
-        let with_word = arguments.flag(&format!("--{}", text.word()));
+        let mut words = text.words().to_vec();
+        words.retain(|word| arguments.flag(&format!("--{word}")));
         arguments.end()?;
-        return print(&text.told(&image_from_stdin()?, with_word).text);
+        return print(&text.told(&image_from_stdin()?, &words).text);
     }
     let program = needed("--program", program)?;
     let (cases, seed) = (needed("--cases", cases)?, needed("--seed", seed)?);
@@ -245,32 +260,32 @@ fn image_from_stdin() -> Result<Vec<u8>, Trouble> {
     image_from(io::stdin().lock()).map_err(with("standard input"))
 }
 
-/// A line for each case that `next` finds on standard input.
+/// The lines of each case that `next` finds on standard input.
 fn stream_answered<C>(
     next: impl Fn(&mut io::BufReader<io::StdinLock>) -> io::Result<Option<C>>,
-    line: impl Fn(&C) -> String,
+    lines: impl Fn(&C) -> String,
 ) -> Result<End, Trouble> {
     let mut input = io::BufReader::new(io::stdin().lock());
     let mut output = BufWriter::new(io::stdout().lock());
     while let Some(case) = next(&mut input).map_err(with("standard input"))? {
-        output.write_all(line(&case).as_bytes()).map_err(with("standard output"))?;
+        output.write_all(lines(&case).as_bytes()).map_err(with("standard output"))?;
     }
     output.flush().map_err(with("standard output"))?;
     Ok(End::Well)
 }
 
 fn answer_stream() -> Result<End, Trouble> {
-    stream_answered(|input| stream::next(input), |case| answer::line(&answer::answer(&case.image, case.budget)))
+    stream_answered(|input| stream::next(input), |case| answer::answered(case).1)
 }
 
 fn write_stream() -> Result<End, Trouble> {
     stream_answered(|input| write::stream::next(input), |case| write::stream::answered(case).1)
 }
 
-fn generate_stream(cases: u64, seed: u64) -> Result<End, Trouble> {
+fn generate_stream<C: compare::Compared>(cases: u64, seed: u64) -> Result<End, Trouble> {
     let mut output = BufWriter::new(io::stdout().lock());
     for index in 0..cases {
-        output.write_all(&stream::encoded(&generate::case(seed, index))).map_err(with("standard output"))?;
+        output.write_all(&C::encoded(&C::case(seed, index))).map_err(with("standard output"))?;
     }
     output.flush().map_err(with("standard output"))?;
     Ok(End::Well)

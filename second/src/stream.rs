@@ -1,31 +1,88 @@
-//! The stream of cases: budget (4 bytes, most significant first), length of the image (2 bytes), the image, and so on
-//! to the end of input.
+//! The stream of cases: a number (4 bytes, most significant first), kind and length of the image (2 bytes: the kind is in
+//! the two highest bits), for a charge the task, the transaction and the way of charging (a byte each), the image, and so
+//! on to the end of input. The number is the budget; for a charge it is t.
 
-use crate::generate::Case;
+use crate::interference::Charging;
+use std::fmt::{self, Display};
 use std::io::{self, Read};
 
-pub fn encoded(case: &Case) -> Vec<u8> {
-    let length = u16::try_from(case.image.len()).expect("an image in a stream has a 16-bit length");
-    let mut bytes = case.budget.to_be_bytes().to_vec();
-    bytes.extend(length.to_be_bytes());
-    bytes.extend(&case.image);
-    bytes
+/// What is asked of an image.
+#[derive(Clone, Copy, Debug, PartialEq, Eq)]
+pub enum Question {
+    /// The cells of every task.
+    Cells { budget: u32 },
+    /// The same, and what every bound is made of.
+    Parts { budget: u32 },
+    /// What a transaction charges a task at t.
+    Charge { task: u8, transaction: u8, charging: Charging, t: u32 },
 }
 
-/// The next case, or none at the end of input. A stream that ends inside a case is an error.
-pub fn next(input: &mut impl Read) -> io::Result<Option<Case>> {
-    let mut head = Vec::new();
-    input.by_ref().take(6).read_to_end(&mut head)?;
-    if head.is_empty() {
-        return Ok(None);
+impl Display for Question {
+    fn fmt(&self, out: &mut fmt::Formatter) -> fmt::Result {
+        match self {
+            Question::Cells { budget } => write!(out, "budget {budget}"),
+            Question::Parts { budget } => write!(out, "parts, budget {budget}"),
+            Question::Charge { task, transaction, charging, t } => {
+                let charging = if *charging == Charging::Imposed { "imposed" } else { "released" };
+                write!(out, "task {task} transaction {transaction} {charging} at {t}")
+            }
+        }
     }
-    let cut = || io::Error::new(io::ErrorKind::UnexpectedEof, "the stream ends inside a case");
-    let [b0, b1, b2, b3, l0, l1] = head[..] else { return Err(cut()) };
-    let length = u16::from_be_bytes([l0, l1]) as usize;
-    let mut image = Vec::new();
-    input.by_ref().take(length as u64).read_to_end(&mut image)?;
-    if image.len() < length {
-        return Err(cut());
+}
+
+#[derive(Clone, Debug, PartialEq, Eq)]
+pub struct Asked {
+    pub question: Question,
+    pub image: Vec<u8>,
+}
+
+const PARTS: u16 = 1 << 14;
+const CHARGE: u16 = 1 << 15;
+const LENGTH: u16 = PARTS - 1;
+
+pub fn encoded(asked: &Asked) -> Vec<u8> {
+    let (number, kind, three) = match asked.question {
+        Question::Cells { budget } => (budget, 0, vec![]),
+        Question::Parts { budget } => (budget, PARTS, vec![]),
+        Question::Charge { task, transaction, charging, t } => {
+            (t, CHARGE, vec![task, transaction, (charging == Charging::Released) as u8])
+        }
+    };
+    let length = u16::try_from(asked.image.len()).ok().filter(|length| *length <= LENGTH);
+    let length = length.expect("an image in a stream has a 14-bit length");
+    [&number.to_be_bytes()[..], &(kind | length).to_be_bytes(), &three, &asked.image].concat()
+}
+
+fn error(kind: io::ErrorKind, told: &str) -> io::Error {
+    io::Error::new(kind, told)
+}
+
+/// So many bytes. A stream that ends inside a case is an error.
+fn bytes(input: &mut impl Read, count: u16) -> io::Result<Vec<u8>> {
+    let mut bytes = Vec::new();
+    input.by_ref().take(count as u64).read_to_end(&mut bytes)?;
+    if bytes.len() < count as usize {
+        return Err(error(io::ErrorKind::UnexpectedEof, "the stream ends inside a case"));
     }
-    Ok(Some(Case { budget: u32::from_be_bytes([b0, b1, b2, b3]), image }))
+    Ok(bytes)
+}
+
+/// The next case, or none at the end of input.
+pub fn next(input: &mut impl Read) -> io::Result<Option<Asked>> {
+    let mut first = Vec::new();
+    input.by_ref().take(1).read_to_end(&mut first)?;
+    let [b0] = first[..] else { return Ok(None) };
+    let [b1, b2, b3, l0, l1] = bytes(input, 5)?[..] else { unreachable!("five bytes") };
+    let (number, kind_and_length) = (u32::from_be_bytes([b0, b1, b2, b3]), u16::from_be_bytes([l0, l1]));
+    let question = match kind_and_length & !LENGTH {
+        0 => Question::Cells { budget: number },
+        PARTS => Question::Parts { budget: number },
+        CHARGE => {
+            let [task, transaction, whole] = bytes(input, 3)?[..] else { unreachable!("three bytes") };
+            let charging = if whole == 0 { Charging::Imposed } else { Charging::Released };
+            Question::Charge { task, transaction, charging, t: number }
+        }
+        _ => return Err(error(io::ErrorKind::InvalidData, "no case in the stream is of that kind")),
+    };
+    Ok(Some(Asked { question, image: bytes(input, kind_and_length & LENGTH)? }))
 }

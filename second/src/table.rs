@@ -43,6 +43,11 @@ impl Table {
         }
         places
     }
+
+    /// The number of task j of transaction v in the whole table.
+    pub fn number(&self, v: usize, j: usize) -> usize {
+        self.transactions[..v].iter().map(|before| before.tasks.len()).sum::<usize>() + j
+    }
 }
 
 impl Transaction {

@@ -111,6 +111,27 @@ fn a_program_that_answers_otherwise_is_a_difference() {
     }
 }
 
+/// One line among those of a case, and one line too few.
+#[test]
+fn a_program_that_names_somebody_else_is_a_difference() {
+    let compare = |script: &str| {
+        let words = ["compare", "--who", "--cases", "60", "--seed", "1", "--program", "sh", "-c", script];
+        output(&[&words[..], &[env!("CARGO_BIN_EXE_second")]].concat())
+    };
+    let same = compare("exec \"$0\" answer");
+    assert_eq!(same.status.code(), Some(0), "{same:?}");
+    assert!(text(&same.stdout).contains("charge above 0: "), "{same:?}");
+    for (script, line) in [
+        ("\"$0\" answer | sed 's/^\\(part [0-9]* [0-9]* [0-9]* [0-9]* \\).*/\\1x/'", "\nprogram part "),
+        ("\"$0\" answer | sed 's/^\\(charge [0-9]* \\).* /\\1x /'", "\nprogram charge "),
+        ("\"$0\" answer | sed '/^part [0-9]* [0-9]* own/d'", "\nsecond  part "),
+    ] {
+        let other = compare(script);
+        assert_eq!(other.status.code(), Some(1), "{script}: {other:?}");
+        assert!(text(&other.stdout).contains(line), "{script}: {other:?}");
+    }
+}
+
 /// One byte of one buffer, or one cell that was read back.
 #[test]
 fn a_program_that_writes_one_thing_otherwise_is_a_difference() {
@@ -169,7 +190,7 @@ fn file(name: &str, bytes: &[u8]) -> String {
 #[test]
 fn an_image_on_standard_input_is_listed() {
     let output = output_for(&["list"], &image());
-    assert_eq!(text(&output.stdout), "task code bound evaluations\n0 0 3 3\n");
+    assert_eq!(text(&output.stdout), "task code bound evaluations mode candidate job\n0 0 3 3 0 0 0\n");
     assert_eq!(output.status.code(), Some(0));
 }
 

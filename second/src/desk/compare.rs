@@ -14,23 +14,24 @@ pub struct Plan {
     pub program: Vec<OsString>,
 }
 
-/// Whether no image differs, and what is to be said of it. The program is started once for each image, for every second
-/// one with the text's word behind it. A dear image is left out and another taken. `watch` gets the number of images so
+/// Whether no image differs, and what is to be said of it. The program is started once for each image, with each choice of
+/// the text's words behind it in turn. A dear image is left out and another taken. `watch` gets the number of images so
 /// far.
 pub fn compare(plan: &Plan, watch: &mut dyn FnMut(u64)) -> io::Result<(bool, String)> {
     let mut counts = Counts::default();
     let cheap = (0..).map(|index| (index, image(plan.seed, index))).filter(|(_, image)| !plan.text.is_dear(image));
     for (done, (index, image)) in (1..=plan.cases).zip(cheap) {
-        let word = (index % 2 == 1).then_some(plan.text.word());
-        let ours = plan.text.told(&image, word.is_some());
+        let words: Vec<&str> =
+            (0..).zip(plan.text.words()).filter(|(i, _)| index >> i & 1 == 1).map(|(_, word)| *word).collect();
+        let ours = plan.text.told(&image, &words);
         let mut command = Command::new(&plan.program[0]);
-        command.args(&plan.program[1..]).args(word).stderr(Stdio::piped());
+        command.args(&plan.program[1..]).args(&words).stderr(Stdio::piped());
         let theirs = run(&mut command, image.clone())?;
         if theirs.stdout != ours.text.as_bytes() {
             // What it says on standard error is not compared, but it may be the reason.
             let _ = io::stderr().write_all(&theirs.stderr);
-            let at =
-                format!("seed {} case {index}{}", plan.seed, word.map_or(String::new(), |word| format!(" {word}")));
+            let words: String = words.iter().map(|word| format!(" {word}")).collect();
+            let at = format!("seed {} case {index}{words}", plan.seed);
             return Ok((false, difference(&at, &image, &ours.text, &theirs.stdout)));
         }
         counts.add(&ours.answer);

@@ -7,10 +7,9 @@ pub mod refused;
 pub mod show;
 pub mod words;
 
-use crate::answer::{all_cells, Cells, PROGRAM_BUDGET};
+use crate::answer::{cells_and_parts, Cells, PROGRAM_BUDGET};
 use crate::generate::is_dear;
 use crate::image::{read, Refusal};
-use crate::interference::Charging;
 
 #[derive(Clone, Copy, Debug, PartialEq, Eq)]
 pub enum Text {
@@ -32,25 +31,27 @@ impl Text {
         }
     }
 
-    /// The word that asks for the other form of the text: only tasks that are not shown to be in time, or aligned numbers.
-    pub fn word(self) -> &'static str {
+    /// The words that ask for another form of the text: only tasks that are not shown to be in time, and of every bound
+    /// what it is made of; or aligned numbers.
+    pub fn words(self) -> &'static [&'static str] {
         match self {
-            Text::Words => "open",
-            Text::Show => "aligned",
+            Text::Words => &["open", "all"],
+            Text::Show => &["aligned"],
         }
     }
 
-    pub fn told(self, image: &[u8], with_word: bool) -> Told {
+    pub fn told(self, image: &[u8], words: &[&str]) -> Told {
         let table = match read(image) {
             Err(refusal) => return Told { text: refused::refused(image, refusal), answer: Err(refusal) },
             Ok(table) => table,
         };
         match self {
             Text::Words => {
-                let row = all_cells(&table, Charging::Imposed, PROGRAM_BUDGET);
-                Told { text: words::words(&table, &row, with_word), answer: Ok(row) }
+                let (row, parts) = cells_and_parts(&table, PROGRAM_BUDGET);
+                let asked = words::Asked { only_open: words.contains(&"open"), all: words.contains(&"all") };
+                Told { text: words::words(&table, &row, &parts, asked), answer: Ok(row) }
             }
-            Text::Show => Told { text: show::show(&table, with_word), answer: Ok(Vec::new()) },
+            Text::Show => Told { text: show::show(&table, words.contains(&"aligned")), answer: Ok(Vec::new()) },
         }
     }
 

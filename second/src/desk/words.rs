@@ -1,7 +1,17 @@
-//! The words of `explain` for an accepted image: a line for each task, and a last one for the table.
+//! The words of `explain` for an accepted image: a line for each task, under it what its bound is made of, and a last line
+//! for the table.
 
 use crate::answer::Cells;
+use crate::interference::Greatest;
+use crate::parts::{Charge, Parts};
 use crate::table::{Table, Task};
+
+/// Of which tasks: only of those that are not shown to be in time, and what the bounds of all are made of.
+#[derive(Clone, Copy, Debug, Default)]
+pub struct Asked {
+    pub only_open: bool,
+    pub all: bool,
+}
 
 /// A task with what was found of it.
 struct Judged<'t> {
@@ -10,6 +20,7 @@ struct Judged<'t> {
     period: i64,
     task: &'t Task,
     cells: Cells,
+    parts: Option<&'t Parts>,
 }
 
 impl Judged<'_> {
@@ -51,6 +62,36 @@ impl Judged<'_> {
             number(self.task.deadline),
         ];
         format!("{}  {}\n", aligned(&columns), self.words())
+    }
+
+    /// What the bound is made of: the parts of the completion, those of 0 left out, and when the job arrived.
+    fn made_of(&self, table: &Table) -> String {
+        let Some(parts) = self.parts else { return String::new() };
+        let Cells { mode, candidate, job, bound, .. } = self.cells;
+        let completion = number(parts.completion);
+        let mut text = format!(
+            "      completes {completion} after the critical instant; task {candidate} sets it in mode {mode}:\n"
+        );
+        let mut part = |ticks: i64, of: &str| text += &format!("{:>41}  {of}\n", number(ticks));
+        if parts.blocking > 0 {
+            part(parts.blocking, "blocking");
+        }
+        part(parts.own_jobs, &format!("its own jobs ({})", number(job as i64 + 1)));
+        if parts.own_rivals > 0 {
+            part(parts.own_rivals, "other tasks of its transaction");
+        }
+        for (v, charge) in parts.charges.iter().enumerate() {
+            if let &Charge::Greatest(Greatest { charge, mode, c }) = charge {
+                let candidate = table.number(v, c);
+                part(charge, &format!("transaction {v}, most when task {candidate} sets it in mode {mode}"));
+            }
+        }
+        let (offset, bound) = (number(parts.offset), number(bound as i64));
+        let far = number(parts.arrival.abs());
+        let (side, sign) = if parts.arrival < 0 { ("before", "+") } else { ("after", "-") };
+        text + &format!(
+            "      arrived {far} {side} that instant, offset {offset}: {completion} {sign} {far} + {offset} = {bound}\n"
+        )
     }
 
     /// Why it is not shown to be in time, in a word or two.
@@ -95,14 +136,17 @@ fn last_line(all: &[Judged]) -> String {
 }
 
 /// With `only_open` the tasks that are not shown to be in time, and the header only above such a line.
-pub fn words(table: &Table, row: &[Cells], only_open: bool) -> String {
-    let judged = |(number, (&(v, j), &cells))| {
-        let transaction = &table.transactions[v];
-        Judged { number, transaction: v, period: transaction.period, task: &transaction.tasks[j], cells }
+pub fn words(table: &Table, row: &[Cells], parts: &[Option<Parts>], asked: Asked) -> String {
+    let judged = |(number, (v, j)): (usize, (usize, usize))| {
+        let (own, cells, parts) = (&table.transactions[v], row[number], parts[number].as_ref());
+        Judged { number, transaction: v, period: own.period, task: &own.tasks[j], cells, parts }
     };
-    let all: Vec<Judged> = table.numbered().iter().zip(row).enumerate().map(judged).collect();
-    let lines: String =
-        all.iter().filter(|judged| !only_open || !judged.is_in_time()).map(|judged| judged.line()).collect();
+    let all: Vec<Judged> = table.numbered().into_iter().enumerate().map(judged).collect();
+    let told = |judged: &Judged| {
+        let made_of = if asked.all || !judged.is_in_time() { judged.made_of(table) } else { String::new() };
+        judged.line() + &made_of
+    };
+    let lines: String = all.iter().filter(|judged| !asked.only_open || !judged.is_in_time()).map(told).collect();
     let names = ["task", "trans", "period", "priority", "bound", "deadline"].map(String::from);
     let header = if lines.is_empty() { String::new() } else { aligned(&names) + "\n" };
     header + &lines + &last_line(&all)

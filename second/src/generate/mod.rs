@@ -2,18 +2,27 @@
 
 pub mod damage;
 pub mod tables;
+pub mod who;
 
 use crate::answer::{all_cells, Cells};
 use crate::draft;
 use crate::image::read;
 use crate::interference::Charging;
 use crate::random::Random;
+use crate::stream::{Asked, Question};
 use crate::table::{Table, Transaction};
 
 #[derive(Clone, Debug, PartialEq, Eq)]
 pub struct Case {
     pub budget: u32,
     pub image: Vec<u8>,
+}
+
+impl Case {
+    /// The case that asks for cells.
+    pub fn asked(self) -> Asked {
+        Asked { question: Question::Cells { budget: self.budget }, image: self.image }
+    }
 }
 
 pub fn case(seed: u64, index: u64) -> Case {

@@ -35,6 +35,7 @@ impl Size {
 #[derive(Clone, Copy)]
 struct Shape {
     frames: &'static [i64],
+    period: fn(&mut Random, i64) -> i64,
     transactions: (i64, i64),
     tasks: (i64, i64),
     modes: (i64, i64),
@@ -49,11 +50,13 @@ struct Shape {
 const TINY_FRAMES: &[i64] = &[1, 2, 3, 4, 6, 8, 10, 12];
 const SMALL_FRAMES: &[i64] = &[10, 16, 20, 24, 30, 36, 40, 48, 60, 72];
 const MIDDLE_FRAMES: &[i64] = &[60, 120, 240, 360, 840, 1000, 1024, 2520];
+const ROUND_FRAMES: &[i64] = &[12, 24, 30, 60, 84, 120, 180, 210, 420];
 const WIDE_FRAMES: &[i64] = &[2520, 5040, 10_000, 27_720, 65_536, 100_800];
 const LARGE_FRAMES: &[i64] = &[720_720, 1_000_000, 8_388_608, 14_414_400, 16_777_200, 16_777_215];
 
 const PLAIN: Shape = Shape {
     frames: SMALL_FRAMES,
+    period: divisor,
     transactions: (1, 4),
     tasks: (1, 3),
     modes: (1, 2),
@@ -86,6 +89,10 @@ pub enum TableKind {
     ManyModes,
     AtAllLimits,
     ExtremeFields,
+    EqualTasks,
+    EqualModes,
+    EqualTransactions,
+    NearlyFull,
 }
 
 pub const KINDS: &[TableKind] = &[
@@ -107,6 +114,10 @@ pub const KINDS: &[TableKind] = &[
     TableKind::ManyModes,
     TableKind::AtAllLimits,
     TableKind::ExtremeFields,
+    TableKind::EqualTasks,
+    TableKind::EqualModes,
+    TableKind::EqualTransactions,
+    TableKind::NearlyFull,
 ];
 
 pub fn table(random: &mut Random, kind: TableKind) -> Table {
@@ -118,6 +129,23 @@ pub fn table(random: &mut Random, kind: TableKind) -> Table {
         TableKind::JustOverloaded => fill(&mut table, 1),
         TableKind::AroundHorizon => reach_horizon(random, &mut table),
         TableKind::ManyTasks => split_tasks(random, &mut table),
+        TableKind::EqualTasks => equal_tasks(random, &mut table),
+        TableKind::EqualModes => {
+            equal_modes(random, &mut table);
+            if random.percent(40) {
+                equal_tasks(random, &mut table);
+            }
+        }
+        TableKind::EqualTransactions => {
+            if random.percent(40) {
+                equal_tasks(random, &mut table);
+            }
+            if random.percent(40) {
+                equal_modes(random, &mut table);
+            }
+            equal_transactions(random, &mut table);
+        }
+        TableKind::NearlyFull => nearly_fill(random, &mut table),
         _ => (),
     }
     table
@@ -183,6 +211,24 @@ fn shape(random: &mut Random, kind: TableKind) -> Shape {
             let zeros = if transactions.0 == 4 { 90 } else { 50 };
             Shape { frames: WIDE_FRAMES, transactions, tasks, modes: (8, 8), zeros, priorities: 64, ..PLAIN }
         }
+        TableKind::EqualTasks | TableKind::EqualModes | TableKind::EqualTransactions => Shape {
+            frames: random.pick(&[TINY_FRAMES, SMALL_FRAMES]),
+            modes: random.pick(&[(1, 2), (2, 4)]),
+            zeros: 40,
+            offset: random.pick(&[Size::Zero, Size::BelowPeriod]),
+            jitter: random.pick(&[Size::Zero, Size::BelowPeriod, Size::SomePeriods]),
+            priorities: random.pick(&[1, 3]),
+            ..PLAIN
+        },
+        TableKind::NearlyFull => Shape {
+            frames: ROUND_FRAMES,
+            period: any_divisor,
+            transactions: (1, 2),
+            tasks: (1, 2),
+            jitter: random.pick(&[Size::Zero, Size::Zero, Size::BelowPeriod]),
+            load: (30, 70),
+            ..PLAIN
+        },
         TableKind::ExtremeFields => Shape {
             frames: random.pick(&[SMALL_FRAMES, LARGE_FRAMES]),
             offset: Size::Any,
@@ -206,6 +252,12 @@ fn divisor(random: &mut Random, frame: i64) -> i64 {
     period
 }
 
+/// Any divisor above 1: the periods of a table need not divide one another.
+fn any_divisor(random: &mut Random, frame: i64) -> i64 {
+    let divisors: Vec<i64> = (2..=frame).filter(|period| frame % period == 0).collect();
+    random.pick(&divisors)
+}
+
 fn shaped(random: &mut Random, shape: &Shape) -> Table {
     let frame = random.pick(shape.frames);
     let count = random.within(shape.transactions.0, shape.transactions.1);
@@ -222,7 +274,7 @@ fn shaped(random: &mut Random, shape: &Shape) -> Table {
 }
 
 fn transaction(random: &mut Random, shape: &Shape, frame: i64, count: i64, load: i64) -> Transaction {
-    let period = divisor(random, frame);
+    let period = (shape.period)(random, frame);
     let modes = random.within(shape.modes.0, shape.modes.1) as usize;
     // Twice the mean, so that the sum of the tasks comes near the load.
     let longest = (2 * period * load / (100 * count)).clamp(1, FIELD_24);
@@ -294,4 +346,68 @@ fn split_tasks(random: &mut Random, table: &mut Table) {
         left -= last.tasks.len();
         table.transactions.push(last);
     }
+}
+
+/// Most tasks stand where an earlier one of their transaction does, some a period later.
+fn equal_tasks(random: &mut Random, table: &mut Table) {
+    for Transaction { period, tasks, .. } in &mut table.transactions {
+        for j in 1..tasks.len() {
+            if random.percent(70) {
+                let like = tasks[random.below(j)].clone();
+                let later = if random.percent(20) { *period } else { 0 };
+                let priority = if random.percent(80) { like.priority } else { tasks[j].priority };
+                tasks[j] = Task { offset: (like.offset + later).min(FIELD_24), priority, ..like };
+            }
+        }
+    }
+}
+
+/// Most modes have the times of an earlier one, some with the times moved on by a task.
+fn equal_modes(random: &mut Random, table: &mut Table) {
+    for Transaction { modes, tasks, .. } in &mut table.transactions {
+        for mode in 1..*modes {
+            if random.percent(70) {
+                let like = random.below(mode);
+                let mut times: Vec<i64> = tasks.iter().map(|task| task.times[like]).collect();
+                if random.percent(30) {
+                    times.rotate_left(1);
+                }
+                for (task, time) in tasks.iter_mut().zip(times) {
+                    task.times[mode] = time;
+                }
+            }
+        }
+        for task in tasks.iter_mut().filter(|task| task.times.iter().all(|time| *time == 0)) {
+            task.times[0] = 1;
+        }
+    }
+}
+
+/// Most transactions are like an earlier one, some with their tasks or modes in reverse order.
+fn equal_transactions(random: &mut Random, table: &mut Table) {
+    for v in 1..table.transactions.len() {
+        if random.percent(70) {
+            let mut like = table.transactions[random.below(v)].clone();
+            if random.percent(20) {
+                like.tasks.reverse();
+            }
+            if random.percent(20) {
+                like.tasks.iter_mut().for_each(|task| task.times.reverse());
+            }
+            table.transactions[v] = like;
+        }
+    }
+}
+
+/// One more task, least urgent, that leaves next to nothing of the major frame: its later jobs may be the late ones.
+fn nearly_fill(random: &mut Random, table: &mut Table) {
+    let shares: Vec<i64> = (2..=6).filter(|share| table.frame % share == 0).collect();
+    let period = table.frame / random.pick(&shares);
+    let blocking = random.pick(&[0, 0, 0, 1]);
+    let task = Task { offset: 0, jitter: 0, blocking, deadline: 2 * period, priority: 0, times: vec![1] };
+    table.transactions.push(Transaction { period, modes: 1, tasks: vec![task] });
+    let u = table.transactions.len() - 1;
+    let left = table.frame - frame_demand(&Fixed { table, u, a: 0 });
+    let more = left / (table.frame / period) - random.within(0, 1);
+    table.transactions[u].tasks[0].times[0] += more.clamp(0, FIELD_24 - 1);
 }

@@ -1,8 +1,9 @@
 //! One given table, its own runs: the longest response of each task beside its bound.
 
 use crate::answer::{cells_of, Cells};
-use crate::bound::{watched, Step};
+use crate::bound::{analyse, Outcome};
 use crate::interference::{Charging, Fixed};
+use crate::parts::{parts, Charge};
 use crate::random::Random;
 use crate::simulate::plan::{Size, Start, Style};
 use crate::simulate::play::{tasks, Chooser};
@@ -29,26 +30,19 @@ pub fn analysed(table: &Table, budget: u32, watch: &mut dyn FnMut(u64)) -> Vec<A
 }
 
 fn analysed_task(fixed: &Fixed, budget: u32) -> Analysed {
-    let mut now = Start { mode: 0, candidate: None };
-    // The greatest response with its completion and its start in u.
-    let mut greatest: Option<(i64, i64, Start)> = None;
-    let verdict = watched(fixed, Charging::Imposed, budget, &mut |step| match step {
-        Step::Candidate { c, mode } => now = Start { mode, candidate: Some(c) },
-        Step::Response { completion, response, .. } if greatest.is_none_or(|(so_far, ..)| response > so_far) => {
-            greatest = Some((response, completion, now));
-        }
-        _ => (),
-    });
-    let cells = cells_of(fixed, verdict);
+    let verdict = analyse(fixed, Charging::Imposed, budget);
     let mut starts = vec![None; fixed.table.transactions.len()];
-    if let Some((_, completion, own)) = greatest.filter(|_| cells.bound > 0) {
-        for (v, start) in starts.iter_mut().enumerate() {
-            let from = fixed.greatest(Charging::Imposed, v, completion);
-            *start = from.map(|greatest| Start { mode: greatest.mode, candidate: Some(greatest.c) });
+    if let Outcome::Bounded(bound) = verdict.outcome {
+        let start = |mode, c| Some(Start { mode, candidate: Some(c) });
+        for (v, charge) in parts(fixed, Charging::Imposed, bound).charges.iter().enumerate() {
+            starts[v] = match charge {
+                Charge::Own => start(bound.mode, bound.c),
+                Charge::Missing | Charge::Nobody => None,
+                Charge::Greatest(greatest) => start(greatest.mode, greatest.c),
+            };
         }
-        starts[fixed.u] = Some(own);
     }
-    Analysed { cells, starts }
+    Analysed { cells: cells_of(fixed, verdict), starts }
 }
 
 /// Jobs in a run, about: some milliseconds.

@@ -60,8 +60,9 @@ fn two_modes() {
 #[test]
 fn sample_s() {
     let image = draft::image(&s());
-    assert_eq!(listing(&image, Charging::Imposed), "task code bound evaluations\n0 0 2 3\n1 0 7 5\n2 20 5 6\n");
-    assert_eq!(line(&answer(&image, 1_000_000)), "accepted 0 2 3 0 7 5 20 5 6\n");
+    let expected = "task code bound evaluations mode candidate job\n0 0 2 3 0 0 0\n1 0 7 5 0 1 0\n2 20 5 6 0 2 0\n";
+    assert_eq!(listing(&image, Charging::Imposed), expected);
+    assert_eq!(line(&answer(&image, 1_000_000)), "accepted 0 2 3 0 0 0 0 7 5 0 1 0 20 5 6 0 2 0\n");
 }
 
 #[test]
@@ -95,7 +96,7 @@ fn the_image_in_hexadecimal() {
     image.extend([0x50, 0x28, 0x00, 0x00, 0x18]);
     assert_eq!(draft::image(&table), image);
     assert_eq!(crate::image::read(&image), Ok(table));
-    assert_eq!(listing(&image, Charging::Imposed), "task code bound evaluations\n0 0 3 3\n");
+    assert_eq!(listing(&image, Charging::Imposed), "task code bound evaluations mode candidate job\n0 0 3 3 0 0 0\n");
 }
 
 #[test]

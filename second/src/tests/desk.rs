@@ -2,7 +2,7 @@
 
 use super::*;
 use crate::desk::place::{field_at, Name};
-use crate::desk::words::{number, words};
+use crate::desk::words::{number, words, Asked};
 use crate::desk::Text;
 use crate::draft::{fields, image, pack, place, Kind};
 use crate::generate::{self, is_dear};
@@ -11,25 +11,68 @@ use std::collections::BTreeSet;
 
 const HEADER: &str = "task trans     period priority      bound   deadline\n";
 
-fn told(text: Text, image: &[u8], with_word: bool) -> String {
-    text.told(image, with_word).text
+fn told(text: Text, image: &[u8], words: &[&str]) -> String {
+    text.told(image, words).text
 }
 
 #[test]
 fn s_in_words() {
-    let late = "   2     1         20        1          5          4  not shown to be in time, 1 above\n";
+    let late = "   2     1         20        1          5          4  not shown to be in time, 1 above
+      completes 5 after the critical instant; task 2 sets it in mode 0:
+                                        2  its own jobs (1)
+                                        3  transaction 0, most when task 0 sets it in mode 0
+      arrived 0 after that instant, offset 0: 5 - 0 + 0 = 5\n";
     let last = "3 tasks: 2 in time, 1 not shown to be (task 2, 1 above); least to spare 3 (task 1)\n";
     let in_time = "   0     0         20        9          2         10  in time, 8 to spare\n   \
                       1     0         20        8          7         10  in time, 3 to spare\n";
-    assert_eq!(told(Text::Words, &image(&s()), false), [HEADER, in_time, late, last].concat());
-    assert_eq!(told(Text::Words, &image(&s()), true), [HEADER, late, last].concat());
+    assert_eq!(told(Text::Words, &image(&s()), &[]), [HEADER, in_time, late, last].concat());
+    assert_eq!(told(Text::Words, &image(&s()), &["open"]), [HEADER, late, last].concat());
+    assert_eq!(told(Text::Words, &image(&s()), &["open", "all"]), [HEADER, late, last].concat());
+    let in_time = "   0     0         20        9          2         10  in time, 8 to spare
+      completes 2 after the critical instant; task 0 sets it in mode 0:
+                                        2  its own jobs (1)
+      arrived 0 after that instant, offset 0: 2 - 0 + 0 = 2
+   1     0         20        8          7         10  in time, 3 to spare
+      completes 3 after the critical instant; task 1 sets it in mode 0:
+                                        3  its own jobs (1)
+      arrived 0 after that instant, offset 4: 3 - 0 + 4 = 7\n";
+    assert_eq!(told(Text::Words, &image(&s()), &["all"]), [HEADER, in_time, late, last].concat());
+}
+
+/// Blocking, a later job, another candidate, and an arrival after the instant: sample `pushed` with blocking.
+#[test]
+fn every_part_has_its_words() {
+    let low = Task { blocking: 1000, deadline: 24, ..task(10, &[4], 1) };
+    let own = transaction(12, vec![task(7, &[2], 9), low]);
+    let table = Table { frame: 84, transactions: vec![own, transaction(21, vec![task(0, &[10], 5)])] };
+    let text = "   1     0         12        1      2,831         24  not shown to be in time, 2,807 above
+      completes 2,848 after the critical instant; task 0 sets it in mode 0:
+                                    1,000  blocking
+                                       12  its own jobs (3)
+                                      476  other tasks of its transaction
+                                    1,360  transaction 1, most when task 2 sets it in mode 0
+      arrived 27 after that instant, offset 10: 2,848 - 27 + 10 = 2,831
+3 tasks: 2 in time, 1 not shown to be (task 1, 2,807 above); least to spare 988 (task 2)\n";
+    assert_eq!(told(Text::Words, &image(&table), &["open"]), [HEADER, text].concat());
+}
+
+/// Document 01's task of jitter 12: it completes at 2, arrived at −12, and has the bound 14.
+#[test]
+fn a_job_held_back_arrived_before_the_instant() {
+    let table = alone_in_frame(vec![Task { jitter: 12, deadline: 13, ..task(0, &[2], 1) }]);
+    let text = "   0     0         10        1         14         13  not shown to be in time, 1 above
+      completes 2 after the critical instant; task 0 sets it in mode 0:
+                                        2  its own jobs (1)
+      arrived 12 before that instant, offset 0: 2 + 12 + 0 = 14
+1 task: 0 in time, 1 not shown to be (task 0, 1 above)\n";
+    assert_eq!(told(Text::Words, &image(&table), &[]), [HEADER, text].concat());
 }
 
 #[test]
 fn s_as_text() {
     let text = "frame 20\ntrans 20 1\ntask 0 0 0 10 9 2\ntask 4 0 0 10 8 3\ntrans 20 1\ntask 0 0 0 4 1 2\n";
-    assert_eq!(told(Text::Show, &image(&s()), false), text);
-    let aligned = told(Text::Show, &image(&s()), true);
+    assert_eq!(told(Text::Show, &image(&s()), &[]), text);
+    let aligned = told(Text::Show, &image(&s()), &["aligned"]);
     let lines: Vec<&str> = aligned.lines().collect();
     assert_eq!(lines[0], "frame        20");
     assert_eq!(lines[1], "trans        20         1");
@@ -59,6 +102,9 @@ fn alone_in_frame(tasks: Vec<Task>) -> Table {
 #[test]
 fn each_code_has_its_words() {
     let open = "   1     0         10        4          5          4  not shown to be in time, 1 above
+      completes 5 after the critical instant; task 1 sets it in mode 1:
+                                        5  its own jobs (1)
+      arrived 0 after that instant, offset 0: 5 - 0 + 0 = 5
    2     0         10        3          -      1,000  no bound: it and the tasks that can delay it may want more than \
 the major frame holds
    3     0         10        2          -      1,000  no bound: no busy time up to the horizon of 16,777,215 ticks was \
@@ -67,19 +113,20 @@ found to end
 5 tasks: 1 in time, 4 not shown to be (worst task 2, no bound); least to spare 8 (task 0)
 ";
     let in_time = "   0     0         10        5          2         10  in time, 8 to spare\n";
-    assert_eq!(told(Text::Words, &image(&all_codes()), false), [HEADER, in_time, open].concat());
-    assert_eq!(told(Text::Words, &image(&all_codes()), true), [HEADER, open].concat());
+    assert_eq!(told(Text::Words, &image(&all_codes()), &[]), [HEADER, in_time, open].concat());
+    assert_eq!(told(Text::Words, &image(&all_codes()), &["open"]), [HEADER, open].concat());
     let text =
         "frame 10\ntrans 10 5\ntask 0 0 0 10 5 2 0 0 0 0\ntask 0 0 0 4 4 0 5 0 0 0\ntask 0 0 0 1000 3 0 0 11 0 0\n\
                 task 0 0 16777215 1000 2 0 0 0 10 0\ntask 0 0 1 67108863 1 0 0 0 0 10\n";
-    assert_eq!(told(Text::Show, &image(&all_codes()), false), text);
+    assert_eq!(told(Text::Show, &image(&all_codes()), &[]), text);
 }
 
 /// The last line for tasks with deadline 10 and these codes and bounds.
 fn last_line(row: &[(u32, u32)]) -> String {
     let table = alone_in_frame(vec![Task { deadline: 10, ..task(0, &[1], 1) }; row.len()]);
-    let row: Vec<Cells> = row.iter().map(|&(code, bound)| Cells { code, bound, evaluations: 0 }).collect();
-    words(&table, &row, false).lines().last().unwrap().into()
+    let row: Vec<Cells> = row.iter().map(|&(code, bound)| Cells { code, bound, ..Cells::default() }).collect();
+    let without_parts = vec![None; row.len()];
+    words(&table, &row, &without_parts, Asked::default()).lines().last().unwrap().into()
 }
 
 #[test]
@@ -108,8 +155,8 @@ fn the_last_line_names_the_worst_and_the_least_to_spare() {
 
 #[test]
 fn a_code_that_is_not_known_is_said_so() {
-    let row = [Cells { code: 24, bound: 7, evaluations: 0 }];
-    let words = words(&alone(task(0, &[1], 1)), &row, true);
+    let row = [Cells { code: 24, bound: 7, ..Cells::default() }];
+    let words = words(&alone(task(0, &[1], 1)), &row, &[None], Asked { only_open: true, all: true });
     let line = "   0     0         10        1          -      1,000  a code that is not known here: 24\n";
     assert_eq!(words, [HEADER, line, "1 task: 0 in time, 1 not shown to be (task 0, no bound)\n"].concat());
 }
@@ -117,7 +164,7 @@ fn a_code_that_is_not_known_is_said_so() {
 #[test]
 fn without_an_open_task_there_is_no_header() {
     let table = alone(task(0, &[3], 5));
-    assert_eq!(told(Text::Words, &image(&table), true), "1 task: all in time; least to spare 997 (task 0)\n");
+    assert_eq!(told(Text::Words, &image(&table), &["open"]), "1 task: all in time; least to spare 997 (task 0)\n");
 }
 
 #[test]
@@ -133,7 +180,7 @@ fn a_comma_before_each_three_digits() {
 fn refused_words(kind: Kind, which: usize, value: i64) -> String {
     let mut fields = fields(&s());
     fields.iter_mut().filter(|field| field.kind == kind).nth(which).unwrap().value = value;
-    told(Text::Words, &pack(&fields), false)
+    told(Text::Words, &pack(&fields), &[])
 }
 
 #[test]
@@ -142,9 +189,9 @@ fn each_refusal_has_its_words_and_its_field() {
     let padded = [&good[..61], &[good[61] | 1]].concat();
     let crowded = Table { frame: 20, transactions: vec![transaction(20, vec![task(0, &[1], 1); 13]); 5] };
     let cases = [
-        (told(Text::Words, &[], false), "(1): it ends inside a field, at byte 0, bit 0: edition"),
+        (told(Text::Words, &[], &[]), "(1): it ends inside a field, at byte 0, bit 0: edition"),
         (
-            told(Text::Words, &good[..30], false),
+            told(Text::Words, &good[..30], &[]),
             "(1): it ends inside a field, at byte 27, bit 5: jitter of task 1, transaction 0",
         ),
         (refused_words(Kind::Edition, 0, 15), "(2): edition is not 1, at byte 0, bit 0: edition"),
@@ -167,7 +214,7 @@ fn each_refusal_has_its_words_and_its_field() {
              transaction 0",
         ),
         (
-            told(Text::Words, &image(&crowded), false),
+            told(Text::Words, &image(&crowded), &[]),
             "(7): not 1 to 16 tasks in a transaction, or more than 64 in all, at byte 869, bit 2: number of tasks of \
              transaction 4",
         ),
@@ -179,9 +226,9 @@ fn each_refusal_has_its_words_and_its_field() {
             refused_words(Kind::Time, 2, 0),
             "(9): a task with time 0 in every mode, at byte 58, bit 2: execution time of task 2 in mode 0, transaction 1",
         ),
-        (told(Text::Words, &padded, false), "(10): a padding bit is 1, at byte 61, bit 2: padding"),
+        (told(Text::Words, &padded, &[]), "(10): a padding bit is 1, at byte 61, bit 2: padding"),
         (
-            told(Text::Words, &[good, vec![10]].concat(), false),
+            told(Text::Words, &[good, vec![10]].concat(), &[]),
             "(11): bytes follow the table, at byte 62, bit 0: the first byte behind the table",
         ),
     ];
@@ -240,7 +287,7 @@ fn each_generated_refusal_is_at_the_start_of_its_field() {
         let field = field_at(&image, place);
         assert_eq!(field.is_none(), refusal.number >= 10, "case {index}");
         assert!(place == 0 || field.is_none() || field_at(&image, place - 1) != field, "case {index}");
-        assert_eq!(told(Text::Words, &image, index % 2 == 0), told(Text::Show, &image, index % 2 == 1));
+        assert_eq!(told(Text::Words, &image, &["open"]), told(Text::Show, &image, &[]));
         kinds.extend(field.map(|name| format!("{:?}", name.kind)));
     }
     assert_eq!(kinds.len(), 12, "{kinds:?}");

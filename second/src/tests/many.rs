@@ -2,12 +2,14 @@
 
 use super::*;
 use crate::answer::{all_cells, answer, host};
+use crate::draft;
 use crate::generate::tables::{table, KINDS};
+use crate::generate::who::asked;
 use crate::generate::{case, Case};
 use crate::image::read;
 use crate::random::Random;
 use crate::simulate::small::{simulate, Settings};
-use crate::{draft, stream};
+use crate::stream::{self, Asked};
 use std::collections::BTreeMap;
 
 #[test]
@@ -83,14 +85,17 @@ fn the_whole_job_bound_is_no_smaller() {
 
 #[test]
 fn a_stream_is_read_as_it_was_written() {
-    let cases: Vec<Case> = (0..100).map(|index| case(4, index)).collect();
+    let cases: Vec<Asked> = (0..200).map(|index| asked(4, index)).collect();
     let bytes: Vec<u8> = cases.iter().flat_map(stream::encoded).collect();
     let mut input = &bytes[..];
     for case in &cases {
         assert_eq!(stream::next(&mut input).unwrap().as_ref(), Some(case));
     }
     assert_eq!(stream::next(&mut input).unwrap(), None);
+    // Cut in the head, in the three bytes of a charge, and of a kind that is not.
     assert!(stream::next(&mut &bytes[..3]).is_err());
+    assert!(stream::next(&mut &[0, 0, 0, 0, 0x80, 0, 1, 1][..]).is_err());
+    assert!(stream::next(&mut &[0, 0, 0, 0, 0xC0, 0][..]).is_err());
 }
 
 #[test]

@@ -8,6 +8,7 @@ mod many;
 mod papers;
 mod progress;
 mod refusals;
+mod who;
 mod write;
 
 use crate::answer::{cells, Cells};
@@ -41,7 +42,7 @@ fn lower(table: &Table) -> Fixed<'_> {
 }
 
 fn triple(fixed: &Fixed, charging: Charging, budget: u32) -> (u32, u32, u32) {
-    let Cells { code, bound, evaluations } = cells(fixed, charging, budget);
+    let Cells { code, bound, evaluations, .. } = cells(fixed, charging, budget);
     (code, bound, evaluations)
 }
 
