@@ -8,6 +8,7 @@ use native.Mathlib.Omega.{arith}
 use lib.ListN.{getD}
 use lib.Pow.{shr-shr}
 use Rattle.bits.specs.Bits.{bitAt, valueAt}
+use Rattle.bits.proofs.Fields.{value-split}
 
 pub zero-bits : (image : List ℕ) (p w : ℕ) → valueAt image p w ≡ 0 → (k : ℕ) → k < w → bitAt image (p + k) ≡ 0
 unfolding valueAt
@@ -39,3 +40,20 @@ prefix image i (suc k) h within =
 
 pub byte-value : (image : List ℕ) (i : ℕ) → getD image i 0 < 256 → valueAt image (8 * i) 8 ≡ getD image i 0
 byte-value image i h = prefix image i 8 h (omega arith) ∙ div-one (getD image i 0)
+
+module _ (image : List ℕ) (bytes : (k : ℕ) → getD image k 0 < 256) where
+  -- a byte more
+  next-byte : (i n : ℕ) → valueAt image (8 * i) (8 * n + 8) ≡ valueAt image (8 * i) (8 * n) * 256 + getD image (i + n) 0
+  next-byte i n =
+      let place : 8 * i + 8 * n ≡ 8 * (i + n) = omega arith in
+      rw (value-split image (8 * i) (8 * n) 8, place, byte-value image (i + n) (bytes (i + n)))
+
+  -- the numbers that four bytes say, and five
+  pub four-bytes :
+      (i : ℕ)
+      → valueAt image (8 * i) 32
+      ≡ ((getD image i 0 * 256 + getD image (i + 1) 0) * 256 + getD image (i + 2) 0) * 256 + getD image (i + 3) 0
+  four-bytes i = rw (next-byte i 3, next-byte i 2, next-byte i 1, byte-value image i (bytes i))
+
+  pub five-bytes : (i : ℕ) → valueAt image (8 * i) 40 ≡ valueAt image (8 * i) 32 * 256 + getD image (i + 4) 0
+  five-bytes i = next-byte i 4

@@ -1,12 +1,13 @@
 -- Laws of fields, over any image, any position and any width: the range of a field, fields that follow one
 -- another, and the number of a field as it is answered.
-use mathlib.Core.Path.{_≡_, refl}
+use mathlib.Core.Path.{_≡_, refl, sym}
 use mathlib.Core.List.{List}
 use mathlib.Core.Bool.{Bool, true, false}
-use Prim.Native.Nat.{ℕ, zero, suc, _+_, _*_, _^_, _<_, _≤_}
+use Prim.Native.Nat.{ℕ, zero, suc, _+_, _-_, _*_, _/_, _%_, _^_, _<_, _≤_}
 use native.Mathlib.Nat.{mod-lt, add-zero, add-suc, add-assoc, mul-one, pow-suc, mul-assoc}
 use native.Mathlib.Omega.{arith}
 use lib.Dec.{lit<}
+use lib.Pow.{high, low}
 use borrow.Author.Tests.{le-leb}
 use Rattle.bits.specs.Bits.{widest, bitAt, valueAt, isInside, pickField, fieldAt}
 use Rattle.bits.specs.declared.Field.{Field}
@@ -27,6 +28,19 @@ pub value-split : (image : List ℕ) (p v w : ℕ) → valueAt image p (v + w) �
 unfolding valueAt
 value-split image p v zero = rw (add-zero, add-zero, mul-one)
 value-split image p v (suc w) = rw (add-suc, value-split image p v w, pow-suc, add-assoc p v w) (omega (arith, mul-assoc (valueAt image p v) (2 ^ w) 2))
+
+-- a field of w bits within a wider one, v bits behind its start and r bits before its end
+pub value-within : (image : List ℕ) (p v w r : ℕ) → valueAt image (p + v) w ≡ valueAt image p (v + w + r) / 2 ^ r % 2 ^ w
+value-within image p v w r =
+    sym
+    (rw (value-split image p (v + w) r, high (valueAt image p (v + w)) r (value-below image (p + (v + w)) r), value-split image p v w)
+    (low (valueAt image p v) w (value-below image (p + v) w)))
+
+-- the same by the bits of the wider one, n of them
+pub value-cut : (image : List ℕ) (p v w n : ℕ) → v + w ≤ n → valueAt image p n / 2 ^ (n - v - w) % 2 ^ w ≡ valueAt image (p + v) w
+value-cut image p v w n within =
+    let whole : v + w + (n - v - w) ≡ n = omega arith in
+    sym (rw whole at (value-within image p v w (n - v - w)))
 
 -- the number of a field as it is answered; n is what the bits up to and past the end of the image say
 abbrev pub numberOf : ℕ → Field → ℕ

@@ -1,8 +1,9 @@
 // Fields of an image: a number of any width from 1 to 32 bits at any bit position of a byte slice, most significant bit
 // first. It knows bytes and bits alone: nothing of tables, of places or of refusals.
 ghost use mathlib.Core.Path.{_≡_};
-ghost use Prim.Native.Nat.{_+_, _*_, _^_, _<_, min};
-ghost use Rattle.bits.specs.Bits.{widest, bitAt, valueAt, isInside, fieldAt};
+ghost use Prim.Native.Nat.{_+_, _-_, _*_, _/_, _%_, _^_, _<_, _≤_, min};
+ghost use lib.ListN.{length, getD};
+ghost use Rattle.bits.specs.Bits.{widest, valueAt, isInside, fieldAt};
 
 // What stands in a field.
 pub enum Field {
@@ -15,6 +16,15 @@ pub enum Field {
 
 // The widest field, in bits.
 pub const WIDEST: usize = 32;
+
+// Whatever the bit of a byte that it starts at, a field lies in five bytes, and one of at most 25 bits in four.
+const SPAN: usize = 5;
+
+const NARROW: usize = 25;
+
+const FIVE_BYTES: usize = 40;
+
+const FOUR_BYTES: usize = 32;
 
 // Whether a field of any width lies in the image whole. No sum here can wrap, whatever the position and the width.
 pub fn inside(image: &[u8], at: usize, width: usize) -> bool
@@ -70,6 +80,7 @@ pub fn value(image: &[u8], at: usize, width: usize) -> u32
     }
 }
 
+// Where five bytes are there the field is whole: one test serves both.
 fn field_at(image: &[u8], at: usize, width: usize) -> Field
     ensures { λ r. ⌜ r ≡ fieldAt (now (image .entry)) at width ⌝ }
 {
@@ -79,6 +90,10 @@ fn field_at(image: &[u8], at: usize, width: usize) -> Field
     if WIDEST < width {
         return Field::NoWidth;
     }
+    let first = at / 8;
+    if first + SPAN <= image.len() {
+        return Field::Holds(value_in(image, first, at % 8, width));
+    }
     let whole = inside(image, at, width);
     if whole {
         Field::Holds(value_at(image, at, width))
@@ -87,19 +102,47 @@ fn field_at(image: &[u8], at: usize, width: usize) -> Field
     }
 }
 
+// The number in a field that starts `from` bits behind the start of byte `first`.
+fn value_in(image: &[u8], first: usize, from: usize, width: usize) -> u32
+    requires { ⌜ first + 5 ≤ length (now image) ⌝ }
+    requires { ⌜ from < 8 ⌝ }
+    requires { ⌜ width ≤ widest ⌝ }
+    ensures { λ r. ⌜ r ≡ valueAt (now (image .entry)) (8 * first + from) width ⌝ }
+{
+    let high = four(
+        image[first],
+        image[first + 1],
+        image[first + 2],
+        image[first + 3],
+    );
+    if width <= NARROW {
+        cut(high as u64, FOUR_BYTES - from - width, width)
+    } else {
+        cut(
+            five(high, image[first + 4]),
+            FIVE_BYTES - from - width,
+            width,
+        )
+    }
+}
+
+// The same of any field, where the image may end inside the five bytes.
 fn value_at(image: &[u8], at: usize, width: usize) -> u32
     ensures { λ r. ⌜ r ≡ valueAt (now (image .entry)) at (min width widest) ⌝ }
 {
     let first = at / 8;
-    let from = at % 8;
+    let high = four(
+        byte(image, first),
+        byte(image, first + 1),
+        byte(image, first + 2),
+        byte(image, first + 3),
+    );
     let end = narrowed(width);
-    let mut v: u32 = 0;
-    let mut k: usize = 0;
-    while k < end {
-        v = 2 * v + bit(image, first, from + k);
-        k += 1;
-    }
-    v
+    cut(
+        five(high, byte(image, first + 4)),
+        FIVE_BYTES - at % 8 - end,
+        end,
+    )
 }
 
 fn narrowed(width: usize) -> usize
@@ -108,23 +151,45 @@ fn narrowed(width: usize) -> usize
     if width < WIDEST { width } else { WIDEST }
 }
 
+// A byte, 0 past the end of the image.
+fn byte(image: &[u8], i: usize) -> u8
+    ensures { λ r. ⌜ r ≡ getD (now (image .entry)) i 0 ⌝ }
+{
+    if i < image.len() { image[i] } else { 0 }
+}
+
+// The number that four bytes say. In 32 bits, so that the compiler makes one load of four bytes in a row.
+fn four(a: u8, b: u8, c: u8, d: u8) -> u32
+    ensures { λ r. ⌜ r ≡ ((a * 256 + b) * 256 + c) * 256 + d ⌝ }
+{
+    ((wide(a) * 256 + wide(b)) * 256 + wide(c)) * 256 + wide(d)
+}
+
+// The number that five bytes say, by that of the first four.
+fn five(high: u32, e: u8) -> u64
+    ensures { λ r. ⌜ r ≡ high * 256 + e ⌝ }
+{
+    (high as u64) * 256 + wide(e) as u64
+}
+
 fn wide(x: u8) -> u32
     ensures { λ r. ⌜ r ≡ x ⌝ }
 {
     x as u32
 }
 
-// The bit that lies `from` bits behind the start of byte `first`.
-fn bit(image: &[u8], first: usize, from: usize) -> u32
-    requires { ⌜ first < 2 ^ 61 ⌝ }
-    requires { ⌜ from < 64 ⌝ }
-    ensures { λ r. ⌜ r ≡ bitAt (now (image .entry)) (8 * first + from) ⌝ }
+// The bits of that many that stand before the last `down`.
+fn cut(x: u64, down: usize, width: usize) -> u32
+    requires { ⌜ down < 64 ⌝ }
+    requires { ⌜ width ≤ widest ⌝ }
+    ensures { λ r. ⌜ r ≡ x / 2 ^ down % 2 ^ width ⌝ }
 {
-    let byte = first + from / 8;
-    let down = 7 - from % 8;
-    if byte < image.len() {
-        (wide(image[byte]) >> down) % 2
-    } else {
-        0
-    }
+    ((x >> down) % power(width)) as u32
+}
+
+fn power(k: usize) -> u64
+    requires { ⌜ k ≤ widest ⌝ }
+    ensures { λ r. ⌜ r ≡ 2 ^ k ⌝ }
+{
+    1 << k
 }

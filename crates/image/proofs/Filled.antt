@@ -12,7 +12,7 @@ use Rattle.table.specs.Lists.{joined, padded}
 use Rattle.format.specs.Places.{start}
 use Rattle.format.specs.Said.{editionIn, frameIn, countIn, tasksIn, tableIn, tasksBefore}
 use Rattle.row.specs.Row.{headerCells, transactionCells, taskCells, tasksCell, rowCells, ofTransaction, ofTask, ofHeader, rowOf, emptyRow}
-use Rattle.image.specs.Fill.{tasksCells, headsIn, ofTasksIn, everyTaskIn, filledOver}
+use Rattle.image.specs.Fill.{tasksCells, headsIn, ofTasksIn, everyTaskIn, transactionsOver, filledOver}
 use Rattle.format.specs.Fault.{IsAccepted}
 use Rattle.table.proofs.Lists.{joined-same, length-padded, padded-again, sets-padded, sets-within}
 use Rattle.format.proofs.Accepted.{header, few-tasks}
@@ -86,7 +86,7 @@ module _ (image : List ℕ) where
 
     -- into a row of zeros
     pub filled : filledOver image emptyRow ≡ rowOf tab
-    unfolding rowOf filledOver
+    unfolding rowOf filledOver transactionsOver
     filled =
         row-filled (editionIn image) (frameIn image) (countIn image) (tasksBefore image (countIn image))
         (headsIn image (countIn image))
@@ -97,7 +97,7 @@ module _ (image : List ℕ) where
 
     -- into cells whose first are zeros, as many as the row has
     pub filled-over : (cells : List ℕ) → filledOver image (sets cells 0 emptyRow) ≡ sets cells 0 (rowOf tab)
-    unfolding filledOver padded
+    unfolding filledOver transactionsOver padded
     filled-over cells =
         let heads = headsIn image (countIn image) in
         let every = everyTaskIn image (countIn image) in

@@ -1,3 +1,4 @@
+pub mod Sound
 pub mod Cells
 pub mod Filled
 pub mod Decoded

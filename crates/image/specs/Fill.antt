@@ -23,8 +23,12 @@ ofTasksIn image p u = tasksCells image (modesIn image p) (p + headWidth) u (task
 unfoldable pub everyTaskIn : List ℕ → ℕ → List ℕ
 everyTaskIn image n = joined n (λ u. ofTasksIn image (start image u) u)
 
+-- cells with the first n transactions stored, and their tasks
+unfoldable pub transactionsOver : List ℕ → ℕ → List ℕ → List ℕ
+transactionsOver image n cells = sets (sets cells headerCells (headsIn image n)) tasksCell (everyTaskIn image n)
+
 -- cells with all of these stored, and the header last
 unfoldable pub filledOver : List ℕ → List ℕ → List ℕ
 filledOver image cells =
-    sets (sets (sets cells headerCells (headsIn image (countIn image))) tasksCell (everyTaskIn image (countIn image))) 0
+    sets (transactionsOver image (countIn image) cells) 0
     (editionIn image ∷ frameIn image ∷ countIn image ∷ tasksBefore image (countIn image) ∷ 0 ∷ [])

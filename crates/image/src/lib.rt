@@ -55,7 +55,7 @@ pub fn read_into(image: &[u8], cells: &mut [u32; Table::CELLS]) -> Answer
     let answer = scan::first_fault(image);
     let sound = answer.is_accepted();
     if sound {
-        fill::clear(cells);
+        fill::clear(cells, 0, Table::CELLS);
         fill::fill(image, cells);
         return Answer::Accepted;
     }

@@ -3,6 +3,7 @@ use row::Task;
 use row::Transaction;
 ghost use mathlib.Core.Path.{_≡_};
 ghost use Prim.Native.Nat.{_<_, _^_};
+ghost use Rattle.format.specs.Places.{taskAt};
 ghost use Rattle.image.specs.Head.{headAt, bodyAt};
 
 // What the image says of the transaction that starts at a bit position.
@@ -14,6 +15,16 @@ pub(crate) fn head_at(image: &[u8], at: usize) -> Transaction
     let tasks = bits::value(image, at + Transaction::TASKS_AT, Transaction::TASKS_WIDTH);
     let period = bits::value(image, at, Transaction::PERIOD_WIDTH);
     Transaction::new(period, modes as usize, tasks as usize)
+}
+
+// Where a transaction of those counts ends, by the bit position where it starts.
+pub(crate) fn end_of(at: usize, held: Transaction) -> usize
+    requires { ⌜ at < 2 ^ 32 ⌝ }
+    requires { ⌜ held .modes < 16 ⌝ }
+    requires { ⌜ held .tasks < 32 ⌝ }
+    ensures { λ r. ⌜ r ≡ taskAt at (held .modes) (held .tasks) ⌝ }
+{
+    at + Transaction::WIDTH + held.tasks * (Task::TIMES_AT + held.modes * Task::TIME_WIDTH)
 }
 
 // What the image says of the task that starts at a bit position.

@@ -1,6 +1,6 @@
 // The first fault of an image, front to back. Reading a field is total, so each check reads its field whether the image
 // holds it or not: that it does is a check of its own that stands before, and what is read past a fault cannot show.
-use super::parts::body_at;
+use super::parts::end_of;
 use super::parts::head_at;
 use refusals::Answer;
 use refusals::Refusal;
@@ -9,12 +9,17 @@ use row::Table;
 use row::Task;
 use row::Transaction;
 ghost use mathlib.Core.Path.{_≡_};
+ghost use mathlib.Core.Bool.{true};
 ghost use Prim.Native.Nat.{_+_, _*_, _^_, _<_};
 ghost use Rattle.table.specs.Sum.{sum};
 ghost use Rattle.table.specs.Limits.{timeWidth};
+ghost use lib.Dec.{leb};
 ghost use Rattle.refusals.specs.Answer.{firstOf};
+ghost use Rattle.refusals.specs.declared.Answer.the-variants.{Accepted};
 ghost use Rattle.bits.specs.Bits.{valueAt};
-ghost use Rattle.format.specs.Places.{taskWidth, past};
+ghost use Rattle.format.specs.Places.{taskWidth};
+ghost use Rattle.format.specs.Said.{frameIn};
+ghost use Rattle.image.specs.Head.{headAt};
 ghost use Rattle.format.specs.Fault.{endsAt, headerFault, taskFault, headFault, transactionFault, endFault, bodyFault, imageFault};
 
 // The image ends inside a field.
@@ -52,22 +57,24 @@ fn times_end(image: &[u8], modes: usize, at: usize) -> Answer
     found
 }
 
-// The sum of the times that start at a bit position: 0 where the task never runs.
-fn times_sum(image: &[u8], modes: usize, at: usize) -> u32
+// A time above 0 of those that start at a bit position, one for each mode: 0 where the task never runs.
+fn some_time(image: &[u8], modes: usize, at: usize) -> u32
     requires { ⌜ modes < 16 ⌝ }
     requires { ⌜ at < 2 ^ 33 ⌝ }
-    ensures { λ r. ⌜ r ≡ sum modes (λ k. valueAt (now (image .entry)) (at + k * timeWidth) timeWidth) ⌝ }
+    ensures { λ r. ⌜ leb 1 r ≡ leb 1 (sum modes (λ k. valueAt (now (image .entry)) (at + k * timeWidth) timeWidth)) ⌝ }
 {
-    let mut all: u32 = 0;
     let mut k: usize = 0;
     while k < modes {
-        all = all + bits::value(image, at + k * Task::TIME_WIDTH, Task::TIME_WIDTH);
+        let time = bits::value(image, at + k * Task::TIME_WIDTH, Task::TIME_WIDTH);
+        if 0 < time {
+            return time;
+        }
         k += 1;
     }
-    all
+    0
 }
 
-fn task(image: &[u8], modes: usize, at: usize) -> Answer
+fn first_in_task(image: &[u8], modes: usize, at: usize) -> Answer
     requires { ⌜ modes < 16 ⌝ }
     requires { ⌜ at < 2 ^ 32 ⌝ }
     ensures { λ r. ⌜ r ≡ taskFault (now (image .entry)) modes at ⌝ }
@@ -77,15 +84,45 @@ fn task(image: &[u8], modes: usize, at: usize) -> Answer
     let deadline = at + Task::DEADLINE_AT;
     let priority = at + Task::PRIORITY_AT;
     let times = at + Task::TIMES_AT;
-    let held = body_at(image, at);
-    let all = times_sum(image, modes, times) as u64;
+    let due = bits::value(image, deadline, Task::DEADLINE_WIDTH);
+    let time = some_time(image, modes, times) as u64;
     ends(image, at, Task::OFFSET_WIDTH).then(ends(image, jitter, Task::JITTER_WIDTH))
         .then(ends(image, blocking, Task::BLOCKING_WIDTH))
         .then(ends(image, deadline, Task::DEADLINE_WIDTH))
-        .then(rules::deadline(held.deadline, deadline))
+        .then(rules::deadline(due, deadline))
         .then(ends(image, priority, Task::PRIORITY_WIDTH))
         .then(times_end(image, modes, times))
-        .then(rules::times(all, times))
+        .then(rules::times(time, times))
+}
+
+// A task that is there whole, is due and runs has no fault.
+fn is_sound(image: &[u8], modes: usize, at: usize) -> bool
+    requires { ⌜ modes < 16 ⌝ }
+    requires { ⌜ at < 2 ^ 32 ⌝ }
+    ensures { λ r. ⌜ (r ≡ true → taskFault (now (image .entry)) modes at ≡ Accepted) ⌝ }
+{
+    let whole = bits::inside(image, at, Task::TIMES_AT + modes * Task::TIME_WIDTH);
+    if whole {
+        let due = bits::value(image, at + Task::DEADLINE_AT, Task::DEADLINE_WIDTH);
+        if 0 < due {
+            return 0 < some_time(image, modes, at + Task::TIMES_AT);
+        }
+    }
+    false
+}
+
+// Findings are put together only where there is one.
+fn task(image: &[u8], modes: usize, at: usize) -> Answer
+    requires { ⌜ modes < 16 ⌝ }
+    requires { ⌜ at < 2 ^ 32 ⌝ }
+    ensures { λ r. ⌜ r ≡ taskFault (now (image .entry)) modes at ⌝ }
+{
+    let sound = is_sound(image, modes, at);
+    if sound {
+        Answer::Accepted
+    } else {
+        first_in_task(image, modes, at)
+    }
 }
 
 fn tasks(image: &[u8], modes: usize, count: usize, at: usize) -> Answer
@@ -109,16 +146,15 @@ fn tasks(image: &[u8], modes: usize, count: usize, at: usize) -> Answer
     found
 }
 
-// The counts and the period of a transaction, where `before` tasks stand before it.
-fn head(image: &[u8], before: usize, at: usize) -> Answer
-    requires { ⌜ before < 2 ^ 32 ⌝ }
+// The counts and the period of a transaction, where `before` tasks stand before it. Its head is read once, and handed on.
+fn first_in_head(image: &[u8], frame: u32, before: usize, at: usize, held: Transaction) -> Answer
+    requires { ⌜ frame ≡ frameIn (now image) ⌝ }
+    requires { ⌜ held ≡ headAt (now image) at ⌝ }
     requires { ⌜ at < 2 ^ 32 ⌝ }
     ensures { λ r. ⌜ r ≡ headFault (now (image .entry)) before at ⌝ }
 {
     let modes = at + Transaction::MODES_AT;
     let tasks = at + Transaction::TASKS_AT;
-    let frame = bits::value(image, Table::FRAME_AT, Table::FRAME_WIDTH);
-    let held = head_at(image, at);
     ends(image, at, Transaction::PERIOD_WIDTH).then(rules::period(frame, held.period, at))
         .then(ends(image, modes, Transaction::MODES_WIDTH))
         .then(rules::modes(held.modes, modes))
@@ -126,28 +162,35 @@ fn head(image: &[u8], before: usize, at: usize) -> Answer
         .then(rules::tasks(before, held.tasks, tasks))
 }
 
-fn transaction(image: &[u8], before: usize, at: usize) -> Answer
-    requires { ⌜ before < 2 ^ 32 ⌝ }
+fn head(image: &[u8], frame: u32, before: usize, at: usize, held: Transaction) -> Answer
+    requires { ⌜ frame ≡ frameIn (now image) ⌝ }
+    requires { ⌜ held ≡ headAt (now image) at ⌝ }
+    requires { ⌜ at < 2 ^ 32 ⌝ }
+    ensures { λ r. ⌜ r ≡ headFault (now (image .entry)) before at ⌝ }
+{
+    let whole = bits::inside(image, at, Transaction::WIDTH);
+    if whole {
+        let sound = rules::is_head(frame, before, held.period, held.modes, held.tasks);
+        if sound {
+            return Answer::Accepted;
+        }
+    }
+    first_in_head(image, frame, before, at, held)
+}
+
+fn transaction(image: &[u8], frame: u32, before: usize, at: usize, held: Transaction) -> Answer
+    requires { ⌜ frame ≡ frameIn (now image) ⌝ }
+    requires { ⌜ held ≡ headAt (now image) at ⌝ }
     requires { ⌜ at < 2 ^ 30 ⌝ }
     ensures { λ r. ⌜ r ≡ transactionFault (now (image .entry)) before at ⌝ }
 {
-    let found = head(image, before, at);
+    let found = head(image, frame, before, at, held);
     let sound = found.is_accepted();
     if sound {
-        let held = head_at(image, at);
         tasks(image, held.modes, held.tasks, at + Transaction::WIDTH)
     } else {
         found
     }
-}
-
-// Where a transaction ends.
-pub(crate) fn end_of(image: &[u8], at: usize) -> usize
-    requires { ⌜ at < 2 ^ 32 ⌝ }
-    ensures { λ r. ⌜ r ≡ past (now (image .entry)) at ⌝ }
-{
-    let held = head_at(image, at);
-    at + Transaction::WIDTH + held.tasks * (Task::TIMES_AT + held.modes * Task::TIME_WIDTH)
 }
 
 // Padding that starts at a bit position, and what follows it.
@@ -169,21 +212,22 @@ fn end(image: &[u8], at: usize) -> Answer
 fn transactions(image: &[u8]) -> Answer
     ensures { λ r. ⌜ r ≡ bodyFault (now (image .entry)) ⌝ }
 {
+    let frame = bits::value(image, Table::FRAME_AT, Table::FRAME_WIDTH);
     let count = bits::value(image, Table::COUNT_AT, Table::TRANSACTIONS_WIDTH) as usize;
     let mut found = Answer::Accepted;
     let mut before: usize = 0;
     let mut at = Table::FIRST_AT;
     let mut u: usize = 0;
     while u < count {
+        let held = head_at(image, at);
         let sound = found.is_accepted();
         if sound {
-            found = transaction(image, before, at);
+            found = transaction(image, frame, before, at, held);
         } else {
             return found;
         }
-        let held = head_at(image, at);
         before += held.tasks;
-        at = end_of(image, at);
+        at = end_of(at, held);
         u += 1;
     }
     found.then(end(image, at))

@@ -85,6 +85,20 @@ pub fn tasks(before: usize, n: usize, at: usize) -> Answer
     check(few_tasks(before, n), Refusal::TaskCount, at)
 }
 
+// The three rules of a transaction before its tasks at once.
+pub fn is_head(frame: u32, before: usize, period: u32, modes: usize, tasks: usize) -> bool
+    ensures { λ r. ⌜ r ≡ (isDivisor frame period && (isBetween 1 modesMost modes && (isBetween 1 tasksMost tasks && leb (before + tasks) tasksInAll))) ⌝ }
+{
+    let period_fits = divides(frame, period);
+    if period_fits {
+        let modes_fit = between(1, Transaction::MODES, modes);
+        if modes_fit {
+            return few_tasks(before, tasks);
+        }
+    }
+    false
+}
+
 pub fn deadline(n: u32, at: usize) -> Answer
     ensures { λ r. ⌜ r ≡ checked (leb 1 n) DeadlineZero at ⌝ }
 {

@@ -101,6 +101,11 @@ set-before [] l i j a h = refl
 set-before (v ∷ vs) l i j a h =
     set-before vs (set l j v) i (suc j) a (omega arith) ∙ ap (λ (k : List ℕ). sets k (suc j) vs) (set-past l i j a v h)
 
+-- stores that lie before others may be made first
+pub sets-before : (ws vs l : List ℕ) (i j : ℕ) → i + length ws ≤ j → sets (sets l j vs) i ws ≡ sets (sets l i ws) j vs
+sets-before [] vs l i j h = refl
+sets-before (w ∷ ws) vs l i j h = rw (set-before vs l i j w (omega arith)) (sets-before ws vs (set l i w) (suc i) j (omega arith))
+
 set-within : (row l : List ℕ) (j i a : ℕ) → i < length row → set (sets l j row) (j + i) a ≡ sets l j (set row i a)
 set-within [] l j i a h = absurd (omega arith)
 set-within (r ∷ rs) l j zero a h =

@@ -1,92 +1,101 @@
--- `bits::value_at` meets its contract. The loop's invariant: `v` is the number that the first k bits say.
-use mathlib.Core.Path.{_≡_, refl}
-use denote.Ref.{now}
-use Prim.Native.Nat.{ℕ, _+_, _*_, _/_, _%_, _^_, _≤_, _<_, _-_, zero-le}
-use native.Mathlib.Nat.{lt-of-lt-of-le}
-use native.Mathlib.Numerals.{add-one}
+-- `bits::value_at` meets its contract: a field within its five bytes, those past the end 0.
+use borrow.Author.Needs.{needs}
+use mathlib.Core.Path.{_≡_}
+use Prim.Native.Nat.{ℕ, _+_, _*_, _/_, _%_, _<_, min}
 use native.Mathlib.Omega.{arith}
-use lib.Pow.{pow-mono}
-use Rattle.bits.proofs.Fields.{bit-below, value-below}
-use Rattle.bits.specs.Bits.{valueAt}
+use lib.ListN.{getD}
+use denote.Ref.{now}
+use Rattle.bits.specs.Bits.{widest}
+use Rattle.bits.proofs.Fields.{value-cut}
+use Rattle.bits.proofs.Bytes.{four-bytes, five-bytes}
 use Rattle.bits.proofs.value_at.Statement.{statement}
 use Rattle.bits.proofs.value_at.Tie as tie
 
-abbrev Inv-loop : tie.InvT-loop
-Inv-loop image at width first from end v₀ k₀ v k = (k ≤ end) × (v ≡ valueAt image at k)
+byte-requires : tie.Need-byte-requires
+byte-requires c κs = search needs
 
-abbrev μ-loop : tie.MeasureT-loop
-μ-loop image at width first from end v₀ k₀ v k = end - k
+add-byte : tie.Need-add-byte
+add-byte c = search needs
 
-le-pred : {k : ℕ} → k < 32 → k ≤ 31
-le-pred h = omega arith
+byte-requires-2 : tie.Need-byte-requires-2
+byte-requires-2 c κs = search needs
 
-place : (at k : ℕ) → 8 * (at / 8) + (at % 8 + k) ≡ at + k
-place at k = omega arith
+add-byte-2 : tie.Need-add-byte-2
+add-byte-2 c = search needs
 
--- a turn has at most 31 bits behind it, which are below 2 ^ 31
-few : (c : tie.In-loop Inv-loop μ-loop) → c .before .loop .k < 32
-few c = omega (arith, c .before .before .narrowed .ensures)
+byte-requires-3 : tie.Need-byte-requires-3
+byte-requires-3 c κs = search needs
 
-small : (c : tie.In-loop Inv-loop μ-loop) → c .before .loop .v < 2 ^ 31
-small c =
-    rw (c .before .loop .inv .1)
-    (lt-of-lt-of-le
-    (value-below (now (c .before .before .before .before .args .image)) (c .before .before .before .before .args .at) (c .before .loop .k))
-    (pow-mono (le-pred (few c))))
+add-byte-3 : tie.Need-add-byte-3
+add-byte-3 c = search needs
 
-one : (c : tie.After-bit Inv-loop μ-loop) → c .bit .result < 2
-one c = rw (c .bit .ensures) (bit-below _ _)
+byte-requires-4 : tie.Need-byte-requires-4
+byte-requires-4 c κs = search needs
 
-narrowed-requires : tie.Need-narrowed-requires Inv-loop μ-loop
-narrowed-requires c κs = tt
+four-requires : tie.Need-four-requires
+four-requires c κs = search needs
 
-loop-holds : tie.Need-loop-holds Inv-loop μ-loop
-unfolding valueAt
-loop-holds c = (zero-le, refl)
+narrowed-requires : tie.Need-narrowed-requires
+narrowed-requires c κs = search needs
 
-mul-v : tie.Need-mul-v Inv-loop μ-loop
-mul-v c = omega (arith, small c)
+add-byte-4 : tie.Need-add-byte-4
+add-byte-4 c = search needs
 
-add-bit : tie.Need-add-bit Inv-loop μ-loop
-add-bit c = omega (arith, few c)
+byte-requires-5 : tie.Need-byte-requires-5
+byte-requires-5 c κs = search needs
 
-bit-requires : tie.Need-bit-requires Inv-loop μ-loop
-bit-requires c κs = omega (arith, few c)
+five-requires : tie.Need-five-requires
+five-requires c κs = search needs
 
-add-v : tie.Need-add-v Inv-loop μ-loop
-add-v c = omega (arith, small (c .before), one c)
+sub-cut : tie.Need-sub-cut
+sub-cut c = search needs
 
-add-k : tie.Need-add-k Inv-loop μ-loop
-add-k c = omega (arith, few (c .before))
+sub-cut-2 : tie.Need-sub-cut-2
+sub-cut-2 c = search needs
 
-loop-less : tie.Need-loop-less Inv-loop μ-loop
-loop-less c = omega arith
+cut-requires : tie.Need-cut-requires
+cut-requires c κs = search needs
 
-loop-again : tie.Need-loop-again Inv-loop μ-loop
-unfolding valueAt
-loop-again c = (
-  omega arith,
-  rw (add-one, valueAt, ← c .before .before .loop .inv .1, c .bit .ensures, place (c .before .before .before .before .before .args .at) (c .before .before .loop .k)),
-)
-
-returns : tie.Need-returns Inv-loop μ-loop
+returns : tie.Need-returns
 returns c =
-    let past : c .before .loop .k ≡ c .before .before .narrowed .result = omega arith in
-    rw (← c .before .before .narrowed .ensures, ← past) (c .before .loop .inv .1)
+    let fifth = c .before .before in
+    let joined = fifth .before .before in
+    let known = joined .before .before .before .before .before in
+    let a = known .before .args in
+    let bytes : (k : ℕ) → getD (now (a .image)) k 0 < 256 = λ k. omega (arith, known .shared-slice-known .given k) in
+    let place : 8 * (a .at / 8) + a .at % 8 ≡ a .at = omega arith in
+    rw (
+      c .cut .ensures,
+      c .before .five .ensures,
+      fifth .byte5 .ensures,
+      fifth .before .narrowed .ensures,
+      joined .four .ensures,
+      joined .before .byte4 .ensures,
+      joined .before .before .byte3 .ensures,
+      joined .before .before .before .byte2 .ensures,
+      joined .before .before .before .before .byte .ensures,
+      ← four-bytes (now (a .image)) bytes (a .at / 8),
+      ← five-bytes (now (a .image)) bytes (a .at / 8),
+    )
+    (rw place at (value-cut (now (a .image)) (8 * (a .at / 8)) (a .at % 8) (min (a .width) widest) 40 (omega arith)))
 
 pub value-at-spec : {M : Type 1} → statement M
 value-at-spec =
     tie.close
     (tie.spec
-    Inv-loop
-    μ-loop
+    byte-requires
+    add-byte
+    byte-requires-2
+    add-byte-2
+    byte-requires-3
+    add-byte-3
+    byte-requires-4
+    four-requires
     narrowed-requires
-    loop-holds
-    mul-v
-    add-bit
-    bit-requires
-    add-v
-    add-k
-    loop-less
-    loop-again
+    add-byte-4
+    byte-requires-5
+    five-requires
+    sub-cut
+    sub-cut-2
+    cut-requires
     returns)

@@ -1,25 +1,33 @@
--- `fill::clear` meets its contract. The invariant: the first cells are 0.
-use mathlib.Core.Path.{_≡_, refl}
+-- `fill::clear` meets its contract. The invariant: the first k of these cells are 0.
+use mathlib.Core.Path.{_≡_, refl, sym, ap, _∙_}
+use mathlib.Core.List.{[]}
 use Prim.Native.Nat.{ℕ, _-_, _≤_, zero-le}
-use native.Mathlib.Nat.{zero-add}
+use native.Mathlib.Nat.{sub-zero}
 use native.Mathlib.Omega.{arith}
+use lib.ListN.{replicate}
 use lib.Seq.{sets}
 use denote.Ref.{now}
 use Rattle.table.specs.Lists.{listOf, padded}
 use Rattle.table.proofs.Lists.{store-next, listOf-zeros}
-use Rattle.row.specs.Row.{rowCells}
 use Rattle.image.proofs.fill.clear.Statement.{statement}
 use Rattle.image.proofs.fill.clear.Tie as tie
 
 abbrev Inv-loop : tie.InvT-loop
-Inv-loop cells₀ at₀ cells at = (at ≤ rowCells) × (cells ≡ sets cells₀ 0 (listOf {A = ℕ} at (λ k. 0)))
+Inv-loop cells₀ from count k₀ cells k = (k ≤ count) × (cells ≡ sets cells₀ from (listOf {A = ℕ} k (λ i. 0)))
 
 abbrev μ-loop : tie.MeasureT-loop
-μ-loop cells₀ at₀ cells at = rowCells - at
+μ-loop cells₀ from count k₀ cells k = count - k
+
+cleared : (n : ℕ) → listOf {A = ℕ} n (λ i. 0) ≡ padded n []
+unfolding padded
+cleared n = listOf-zeros n ∙ ap (λ (k : ℕ). replicate {A = ℕ} k 0) (sym (sub-zero n))
 
 loop-holds : tie.Need-loop-holds Inv-loop μ-loop
 unfolding listOf
 loop-holds c = (zero-le, refl)
+
+add-cells : tie.Need-add-cells Inv-loop μ-loop
+add-cells c = omega arith
 
 mul-cells : tie.Need-mul-cells Inv-loop μ-loop
 mul-cells c = omega arith
@@ -27,24 +35,22 @@ mul-cells c = omega arith
 element-write-cells : tie.Need-element-write-cells Inv-loop μ-loop
 element-write-cells c = omega arith
 
-add-at : tie.Need-add-at Inv-loop μ-loop
-add-at c = omega arith
+add-k : tie.Need-add-k Inv-loop μ-loop
+add-k c = omega arith
 
 loop-less : tie.Need-loop-less Inv-loop μ-loop
 loop-less c = omega arith
 
 loop-again : tie.Need-loop-again Inv-loop μ-loop
 loop-again c =
-    let x = c .before in (
-      omega arith,
-      rw (x .loop .inv .1) (rw (zero-add (x .loop .at)) at (store-next (λ k. 0) (now (x .before .args .cells)) 0 (x .loop .at))),
-    )
+    let at-loop = c .before in
+    let a = at-loop .before .args in
+    (omega arith, rw (at-loop .loop .inv .1) (store-next (λ k. 0) (now (a .cells)) (a .from) (at-loop .loop .k)))
 
 returns : tie.Need-returns Inv-loop μ-loop
-unfolding padded
 returns c =
-    let past : c .before .loop .at ≡ rowCells = omega arith in
-    rw (past, listOf-zeros rowCells) at (c .before .loop .inv .1)
+    let past : c .before .loop .k ≡ c .before .before .args .count = omega arith in
+    rw (past, cleared) at (c .before .loop .inv .1)
 
 pub clear-spec : {M : Type 1} → statement M
 clear-spec =
@@ -53,9 +59,10 @@ clear-spec =
     Inv-loop
     μ-loop
     loop-holds
+    add-cells
     mul-cells
     element-write-cells
-    add-at
+    add-k
     loop-less
     loop-again
     returns)

@@ -1,6 +1,6 @@
--- `fill::fill` meets its contract: the groups one after the other, and the header last.
-use Rattle.image.specs.Fill.{filledOver}
+-- `fill::fill` meets its contract: the transactions with their tasks, and the header last.
 use borrow.Author.Needs.{needs}
+use Rattle.image.specs.Fill.{filledOver}
 use Rattle.image.proofs.fill.fill.Statement.{statement}
 use Rattle.image.proofs.fill.fill.Tie as tie
 
@@ -13,11 +13,8 @@ value-requires-2 c κs = search needs
 value-requires-3 : tie.Need-value-requires-3
 value-requires-3 c κs = search needs
 
-put-heads-requires : tie.Need-put-heads-requires
-put-heads-requires c κs = search needs
-
-put-every-task-requires : tie.Need-put-every-task-requires
-put-every-task-requires c κs = search needs
+put-transactions-requires : tie.Need-put-transactions-requires
+put-transactions-requires c κs = search needs
 
 element-write-cells : tie.Need-element-write-cells
 element-write-cells c = search needs
@@ -37,13 +34,13 @@ element-write-cells-5 c = search needs
 returns : tie.Need-returns
 unfolding filledOver
 returns c =
+    let read = c .before .before in
     rw (
-      c .put-every-task .ensures,
-      c .before .before .put-heads .ensures .1,
-      c .before .before .put-heads .ensures .0,
-      c .before .before .before .before .value3 .ensures,
-      c .before .before .before .before .before .value2 .ensures,
-      c .before .before .before .before .before .before .value .ensures,
+      c .put-transactions .ensures .1,
+      c .put-transactions .ensures .0,
+      read .value3 .ensures,
+      read .before .value2 .ensures,
+      read .before .before .value .ensures,
     )
 
 pub fill-spec : {M : Type 1} → statement M
@@ -53,8 +50,7 @@ fill-spec =
     value-requires
     value-requires-2
     value-requires-3
-    put-heads-requires
-    put-every-task-requires
+    put-transactions-requires
     element-write-cells
     element-write-cells-2
     element-write-cells-3

@@ -23,7 +23,7 @@ width :
 width c =
     tasks-width (c .before .loop .j) (c .before .before .before .args .modes)
     (omega arith)
-    (c .before .before .before .pre .0)
+    (omega arith)
 
 mul-size : tie.Need-mul-size Inv-loop μ-loop
 mul-size c = omega arith

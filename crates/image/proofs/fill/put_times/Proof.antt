@@ -1,33 +1,42 @@
--- `fill::put_times` meets its contract. The invariant: the times of the first m modes are stored.
-use mathlib.Core.Path.{_≡_, refl}
+-- `fill::put_times` meets its contract. The invariant: the times of the first m modes are stored over zeros.
+use mathlib.Core.Path.{_≡_, refl, _∙_}
 use mathlib.Core.List.{List}
 use Prim.Native.Nat.{ℕ, _+_, _-_, _*_, _≤_, zero-le}
 use native.Mathlib.Omega.{arith}
-use lib.ListN.{getD}
 use lib.Seq.{sets}
 use denote.Ref.{now}
 use Rattle.bits.specs.Bits.{valueAt}
-use Rattle.table.specs.Limits.{timeWidth}
+use Rattle.table.specs.Limits.{timeWidth, modesMost}
 use Rattle.table.specs.Lists.{listOf}
 use Rattle.table.proofs.Lists.{store-next}
+use Rattle.image.proofs.Cells.{over-zeros}
 use Rattle.image.proofs.fill.put_times.Statement.{statement}
 use Rattle.image.proofs.fill.put_times.Tie as tie
 
-abbrev times : List ℕ → ℕ → ℕ → ℕ → ℕ
-times image modes at m = getD (listOf modes (λ k. valueAt image (at + k * timeWidth) timeWidth)) m 0
+abbrev times : List ℕ → ℕ → ℕ → ℕ
+times image at m = valueAt image (at + m * timeWidth) timeWidth
 
 abbrev Inv-loop : tie.InvT-loop
-Inv-loop image modes at cells₀ cell m₀ cells m = (m ≤ 8) × (cells ≡ sets cells₀ cell (listOf m (times image modes at)))
+Inv-loop image modes at cells₀ cell m₀ cells m = (m ≤ modes) × (cells ≡ sets cells₀ cell (listOf m (times image at)))
 
 abbrev μ-loop : tie.MeasureT-loop
-μ-loop image modes at cells₀ cell m₀ cells m = 8 - m
+μ-loop image modes at cells₀ cell m₀ cells m = modes - m
+
+clear-requires : tie.Need-clear-requires Inv-loop μ-loop
+clear-requires c κs = omega arith
 
 loop-holds : tie.Need-loop-holds Inv-loop μ-loop
 unfolding listOf
 loop-holds c = (zero-le, refl)
 
-time-requires : tie.Need-time-requires Inv-loop μ-loop
-time-requires c κs = omega arith
+mul-value : tie.Need-mul-value Inv-loop μ-loop
+mul-value c = omega arith
+
+add-value : tie.Need-add-value Inv-loop μ-loop
+add-value c = omega arith
+
+value-requires : tie.Need-value-requires Inv-loop μ-loop
+value-requires c κs = tt
 
 add-cells : tie.Need-add-cells Inv-loop μ-loop
 add-cells c = omega arith
@@ -47,16 +56,15 @@ loop-less c = omega arith
 loop-again : tie.Need-loop-again Inv-loop μ-loop
 loop-again c =
     let at-loop = c .before .before in
-    let a = at-loop .before .before .args in (
-      omega arith,
-      rw (at-loop .loop .inv .1, c .time .ensures)
-          (store-next (times (now (a .image)) (a .modes) (a .at)) (now (a .cells)) (a .cell) (at-loop .loop .m)),
-    )
+    let a = at-loop .before .before .before .before .args in
+    (omega arith, rw (at-loop .loop .inv .1, c .value .ensures) (store-next (times (now (a .image)) (a .at)) _ (a .cell) (at-loop .loop .m)))
 
 returns : tie.Need-returns Inv-loop μ-loop
 returns c =
-    let past : c .before .loop .m ≡ 8 = omega arith in
-    rw past at (c .before .loop .inv .1)
+    let a = c .before .before .before .before .before .args in
+    let past : c .before .loop .m ≡ a .modes = omega arith in
+    rw (past, c .before .before .clear .ensures) at (c .before .loop .inv .1)
+    ∙ over-zeros modesMost (a .modes) (times (now (a .image)) (a .at)) (now (a .cells)) (a .cell) (omega arith)
 
 pub put-times-spec : {M : Type 1} → statement M
 put-times-spec =
@@ -64,8 +72,11 @@ put-times-spec =
     (tie.spec
     Inv-loop
     μ-loop
+    clear-requires
     loop-holds
-    time-requires
+    mul-value
+    add-value
+    value-requires
     add-cells
     mul-cells
     element-write-cells

@@ -1,112 +1,20 @@
--- `scan::task` meets its contract: one chain of checks, rewritten by what each call ensures, the last first.
-use native.Mathlib.Nat.{add-zero}
-use Rattle.table.specs.Rules.{taskRules}
-use Rattle.refusals.specs.Answer.{firstOf}
-use Rattle.refusals.proofs.Findings.{one-rule}
+-- `scan::task` meets its contract.
 use borrow.Author.Needs.{needs}
+use mathlib.Core.Path.{sym}
 use Rattle.image.proofs.scan.task.Statement.{statement}
 use Rattle.image.proofs.scan.task.Tie as tie
 
-add-jitter : tie.Need-add-jitter
-add-jitter c = search needs
+is-sound-requires : tie.Need-is-sound-requires
+is-sound-requires c κs = search needs
 
-add-blocking : tie.Need-add-blocking
-add-blocking c = search needs
-
-add-deadline : tie.Need-add-deadline
-add-deadline c = search needs
-
-add-priority : tie.Need-add-priority
-add-priority c = search needs
-
-add-times : tie.Need-add-times
-add-times c = search needs
-
-body-at-requires : tie.Need-body-at-requires
-body-at-requires c κs = search needs
-
-times-sum-requires : tie.Need-times-sum-requires
-times-sum-requires c κs = search needs
-
-cast-all : tie.Need-cast-all
-cast-all c = search needs
-
-ends-requires : tie.Need-ends-requires
-ends-requires c κs = tt
-
-ends-requires-2 : tie.Need-ends-requires-2
-ends-requires-2 c κs = tt
-
-then-requires : tie.Need-then-requires
-then-requires c κs = tt
-
-ends-requires-3 : tie.Need-ends-requires-3
-ends-requires-3 c κs = tt
-
-then-requires-2 : tie.Need-then-requires-2
-then-requires-2 c κs = tt
-
-ends-requires-4 : tie.Need-ends-requires-4
-ends-requires-4 c κs = tt
-
-then-requires-3 : tie.Need-then-requires-3
-then-requires-3 c κs = tt
-
-deadline-requires : tie.Need-deadline-requires
-deadline-requires c κs = tt
-
-then-requires-4 : tie.Need-then-requires-4
-then-requires-4 c κs = tt
-
-ends-requires-5 : tie.Need-ends-requires-5
-ends-requires-5 c κs = tt
-
-then-requires-5 : tie.Need-then-requires-5
-then-requires-5 c κs = tt
-
-times-end-requires : tie.Need-times-end-requires
-times-end-requires c κs = search needs
-
-then-requires-6 : tie.Need-then-requires-6
-then-requires-6 c κs = tt
-
-times-requires : tie.Need-times-requires
-times-requires c κs = tt
-
-then-requires-7 : tie.Need-then-requires-7
-then-requires-7 c κs = tt
+first-in-task-requires : tie.Need-first-in-task-requires
+first-in-task-requires c κs = search needs
 
 returns : tie.Need-returns
-unfolding taskRules firstOf
-returns c =
-    rw (c .then7 .ensures, c .before .times .ensures, c .before .before .then6 .ensures, c .before .before .before .times-end .ensures, c .before .before .before .before .then5 .ensures, c .before .before .before .before .before .ends5 .ensures, c .before .before .before .before .before .before .then4 .ensures, c .before .before .before .before .before .before .before .deadline .ensures, c .before .before .before .before .before .before .before .before .then3 .ensures, c .before .before .before .before .before .before .before .before .before .ends4 .ensures, c .before .before .before .before .before .before .before .before .before .before .then2 .ensures, c .before .before .before .before .before .before .before .before .before .before .before .ends3 .ensures, c .before .before .before .before .before .before .before .before .before .before .before .before .then .ensures, c .before .before .before .before .before .before .before .before .before .before .before .before .before .ends2 .ensures, c .before .before .before .before .before .before .before .before .before .before .before .before .before .before .ends .ensures, c .before .before .before .before .before .before .before .before .before .before .before .before .before .before .before .times-sum .ensures, c .before .before .before .before .before .before .before .before .before .before .before .before .before .before .before .before .body-at .ensures, add-zero)
-    (one-rule _ _ _ _ _ _)
+returns c = sym (c .before .is-sound .ensures (c .if1 .taken))
+
+returns-2 : tie.Need-returns-2
+returns-2 c = search needs
 
 pub task-spec : {M : Type 1} → statement M
-task-spec =
-    tie.close
-    (tie.spec
-    add-jitter
-    add-blocking
-    add-deadline
-    add-priority
-    add-times
-    body-at-requires
-    times-sum-requires
-    cast-all
-    ends-requires
-    ends-requires-2
-    then-requires
-    ends-requires-3
-    then-requires-2
-    ends-requires-4
-    then-requires-3
-    deadline-requires
-    then-requires-4
-    ends-requires-5
-    then-requires-5
-    times-end-requires
-    then-requires-6
-    times-requires
-    then-requires-7
-    returns)
+task-spec = tie.close (tie.spec is-sound-requires first-in-task-requires returns returns-2)
