@@ -15,15 +15,20 @@ use Rattle.bits.proofs.Fields.{value-below}
 use Rattle.bits.proofs.Bytes.{prefix}
 use Rattle.bits.proofs.Put.{put-append, length-field, field-split}
 
--- of a field that has rest bits to come, the next t, put at the place q where those before them end
+-- of a field of w bits its last t, put at the place q where those before them end
+pub put-last :
+    (bytes : List ℕ) (p done t v : ℕ) {q w : ℕ} → q ≡ p + done → w ≡ done + t
+    → bitsPut (bitsPut bytes p (fieldBits done (v / 2 ^ t))) q (fieldBits t v) ≡ bitsPut bytes p (fieldBits w v)
+put-last bytes p done t v place all = rw (place, all, field-split done t v, put-append bytes p (fieldBits done (v / 2 ^ t)) (fieldBits t v), length-field)
+
+-- of a field that has rest bits to come, the next t
 pub put-next :
-    (bytes : List ℕ) (p done t rest v : ℕ) {q : ℕ} → q ≡ p + done → t ≤ rest
-    → bitsPut (bitsPut bytes p (fieldBits done (v / 2 ^ rest))) q (fieldBits t (v / 2 ^ (rest - t))) ≡ bitsPut bytes p (fieldBits (done + t) (v / 2 ^ (rest - t)))
-put-next bytes p done t rest v place within =
+    (bytes : List ℕ) (p done t rest v : ℕ) {q w : ℕ} → q ≡ p + done → w ≡ done + t → t ≤ rest
+    → bitsPut (bitsPut bytes p (fieldBits done (v / 2 ^ rest))) q (fieldBits t (v / 2 ^ (rest - t))) ≡ bitsPut bytes p (fieldBits w (v / 2 ^ (rest - t)))
+put-next bytes p done t rest v place all within =
     let whole : rest ≡ rest - t + t = omega arith in
-    let x : ℕ = v / 2 ^ (rest - t) in
-    let above : v / 2 ^ rest ≡ x / 2 ^ t = ap (λ (k : ℕ). v / 2 ^ k) whole ∙ sym (shr-shr v (rest - t) t) in
-    rw (place, above, field-split done t x, put-append bytes p (fieldBits done (x / 2 ^ t)) (fieldBits t x), length-field)
+    let above : v / 2 ^ rest ≡ v / 2 ^ (rest - t) / 2 ^ t = ap (λ (k : ℕ). v / 2 ^ k) whole ∙ sym (shr-shr v (rest - t) t) in
+    rw above (put-last bytes p done t (v / 2 ^ (rest - t)) place all)
 
 -- what a byte holds is of no account once it is stored anew
 store-over : (bytes : List ℕ) (i from : ℕ) (l : List ℕ) (x : ℕ) → from + length l ≤ 8 → set (bitsPut bytes (8 * i + from) l) i x ≡ set bytes i x
@@ -89,3 +94,8 @@ put-in-byte bytes i from (suc t) v some within =
       | yes there ↦ rw (head-value bytes i from t (v / 2) there (omega arith), doubled (valueAt bytes (8 * i) from) v t)
       | no past ↦ set-out bytes i _ (omega arith) ∙ sym (set-out bytes i _ (omega arith))
     ]
+
+-- eight bits at a byte's head are the byte, whatever it held
+pub put-whole-byte : (bytes : List ℕ) (i v : ℕ) → bitsPut bytes (8 * i) (fieldBits 8 v) ≡ set bytes i (v % 256)
+unfolding valueAt
+put-whole-byte bytes i v = rw add-zero at (put-in-byte bytes i 0 8 v (omega arith) (omega arith)) ∙ ap (set bytes i) (omega arith)

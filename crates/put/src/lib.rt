@@ -15,14 +15,33 @@ pub fn put(buffer: &mut [u8], at: usize, width: usize, value: u32)
     let first = at / 8;
     let from = at % 8;
     let end = least(width, WIDEST);
-    let mut done: usize = 0;
-    while done < end {
-        let byte = first + (from + done) / 8;
-        let here = (from + done) % 8;
-        let rest = end - done;
-        let take = least(8 - here, rest);
-        put_chunk(buffer, byte, here, take, value >> (rest - take));
-        done += take;
+    // a store of no bits would still clear what stands behind them
+    if end == 0 {
+        return;
+    }
+    let take = least(8 - from, end);
+    let rest = end - take;
+    put_chunk(buffer, first, from, take, value >> rest);
+    if 0 < rest {
+        put_bytes(buffer, first + 1, rest, value);
+    }
+}
+
+// Puts the number's lowest bits from the head of that byte on: a byte that they fill is one store, whatever it held.
+fn put_bytes(buffer: &mut [u8], first: usize, width: usize, value: u32)
+    requires { ⌜ first < 2 ^ 63 ⌝ }
+    requires { ⌜ width ≤ widest ⌝ }
+    ensures { λ _. ⌜ now (buffer .exit) ≡ bitsPut (now (buffer .entry)) (8 * first) (fieldBits width value) ⌝ }
+{
+    let mut byte = first;
+    let mut rest = width;
+    while 8 <= rest {
+        rest -= 8;
+        put_byte(buffer, byte, value >> rest);
+        byte += 1;
+    }
+    if 0 < rest {
+        put_chunk(buffer, byte, 0, rest, value);
     }
 }
 
@@ -64,5 +83,13 @@ fn put_chunk(buffer: &mut [u8], byte: usize, from: usize, take: usize, value: u3
 {
     if byte < buffer.len() {
         buffer[byte] = joined(buffer[byte], from, take, value);
+    }
+}
+
+fn put_byte(buffer: &mut [u8], byte: usize, value: u32)
+    ensures { λ _. ⌜ now (buffer .exit) ≡ bitsPut (now (buffer .entry)) (8 * byte) (fieldBits 8 value) ⌝ }
+{
+    if byte < buffer.len() {
+        buffer[byte] = (value % 256) as u8;
     }
 }

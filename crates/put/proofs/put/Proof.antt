@@ -1,112 +1,95 @@
--- `put::put` meets its contract. The loop's invariant: the first `done` bits of the field are put.
+-- `put::put` meets its contract: the bits up to the edge of their first byte, and then the rest, where there is any.
 use borrow.Author.Needs.{needs}
-use mathlib.Core.Path.{_≡_, refl, ap, _∙_}
-use Prim.Native.Nat.{ℕ, _+_, _-_, _*_, _/_, _%_, _^_, _≤_, zero-le}
+use mathlib.Core.Path.{_≡_}
+use Prim.Native.Nat.{ℕ, _+_, _-_, _*_, _/_, _%_, _≤_}
 use native.Mathlib.Nat.{div-one}
 use native.Mathlib.Omega.{arith}
-use lib.ListN.{length}
 use denote.Ref.{now}
 use Rattle.bits.specs.Bits.{fieldBits}
 use Rattle.bits.specs.Put.{bitsPut}
-use Rattle.bits.proofs.Put.{length-put}
-use Rattle.put.proofs.BitsPut.{put-next}
+use Rattle.put.proofs.BitsPut.{put-last}
 use Rattle.put.proofs.put.Statement.{statement}
 use Rattle.put.proofs.put.Tie as tie
 
-abbrev Inv-loop : tie.InvT-loop
-Inv-loop buffer₀ at width value first from end done₀ buffer done = (done ≤ end) × (buffer ≡ bitsPut buffer₀ at (fieldBits done (value / 2 ^ (end - done))))
-
-abbrev μ-loop : tie.MeasureT-loop
-μ-loop buffer₀ at width value first from end done₀ buffer done = end - done
-
-least-requires : tie.Need-least-requires Inv-loop μ-loop
+least-requires : tie.Need-least-requires
 least-requires c κs = search needs
 
-loop-holds : tie.Need-loop-holds Inv-loop μ-loop
+returns : tie.Need-returns
 unfolding bitsPut fieldBits
-loop-holds c = (zero-le, refl)
+returns c = rw (← c .before .least .ensures, c .if1 .taken)
 
-add-byte : tie.Need-add-byte Inv-loop μ-loop
-add-byte c = omega arith
+sub-least : tie.Need-sub-least
+sub-least c = search needs
 
-add-byte-2 : tie.Need-add-byte-2 Inv-loop μ-loop
-add-byte-2 c = omega arith
-
-add-here : tie.Need-add-here Inv-loop μ-loop
-add-here c = omega arith
-
-sub-rest : tie.Need-sub-rest Inv-loop μ-loop
-sub-rest c = omega arith
-
-sub-least : tie.Need-sub-least Inv-loop μ-loop
-sub-least c = omega arith
-
-least-requires-2 : tie.Need-least-requires-2 Inv-loop μ-loop
+least-requires-2 : tie.Need-least-requires-2
 least-requires-2 c κs = search needs
 
-sub-put-chunk : tie.Need-sub-put-chunk Inv-loop μ-loop
-sub-put-chunk c = omega arith
+sub-rest : tie.Need-sub-rest
+sub-rest c = search needs
 
-cast-put-chunk : tie.Need-cast-put-chunk Inv-loop μ-loop
-cast-put-chunk c = omega arith
+cast-put-chunk : tie.Need-cast-put-chunk
+cast-put-chunk c = search needs
 
-shr-put-chunk : tie.Need-shr-put-chunk Inv-loop μ-loop
-shr-put-chunk c = omega arith
+shr-put-chunk : tie.Need-shr-put-chunk
+shr-put-chunk c = search needs
 
-put-chunk-requires : tie.Need-put-chunk-requires Inv-loop μ-loop
-put-chunk-requires c κs = omega arith
+put-chunk-requires : tie.Need-put-chunk-requires
+put-chunk-requires c κs = search needs
 
-add-done : tie.Need-add-done Inv-loop μ-loop
-add-done c = omega arith
+add-put-bytes : tie.Need-add-put-bytes
+add-put-bytes c = search needs
 
-loop-less : tie.Need-loop-less Inv-loop μ-loop
-loop-less c = omega arith
+put-bytes-requires : tie.Need-put-bytes-requires
+put-bytes-requires c κs = search needs
 
-loop-again : tie.Need-loop-again Inv-loop μ-loop
-loop-again c =
+same-length : tie.Need-same-length
+same-length c = search needs
+
+returns-2 : tie.Need-returns-2
+returns-2 c =
     let called = c .before .before in
-    let turn = called .before .before in
-    let at-loop = turn .before .before in
-    let a = at-loop .before .before .before .args in
-    let end = at-loop .before .least .result in
-    let done = at-loop .loop .done in
+    let first = called .before .before .before .before .before in
+    let turn = first .before .before in
+    let start = turn .before .before in
+    let a = start .before .before .args in
     let take = turn .least2 .result in
-    let left : end - (done + take) ≡ end - done - take = omega arith in (
-      omega (arith, turn .least2 .ensures),
-      rw (called .put-chunk .ensures, at-loop .loop .inv .1, left)
-          (put-next (now (a .buffer)) (a .at) done take (end - done) (a .value) (omega arith) (omega (arith, turn .least2 .ensures))),
-    )
+    let place : 8 * (a .at / 8) + a .at % 8 ≡ a .at = omega arith in
+    rw (called .put-bytes .ensures, first .put-chunk .ensures, place, ← start .least .ensures)
+    (put-last (now (a .buffer)) (a .at) take (start .least .result - take) (a .value) (omega arith) (omega arith))
 
-same-length : tie.Need-same-length Inv-loop μ-loop
-same-length c = ap length (c .before .loop .inv .1) ∙ length-put _ _ _
+same-length-2 : tie.Need-same-length-2
+same-length-2 c = search needs
 
-returns : tie.Need-returns Inv-loop μ-loop
-returns c =
-    let at-loop = c .before in
-    let past : at-loop .loop .done ≡ at-loop .before .least .result = omega arith in
-    let none : at-loop .before .least .result - at-loop .loop .done ≡ 0 = omega arith in
-    rw (← at-loop .before .least .ensures, ← past) (at-loop .loop .inv .1 ∙ rw (none, div-one))
+-- where no bits are left, the first are all
+all-taken : (take end : ℕ) → take ≤ end → end - take ≤ 0 → take ≡ end
+all-taken take end within none = omega arith
+
+returns-3 : tie.Need-returns-3
+returns-3 c =
+    let first = c .before .before .before in
+    let turn = first .before .before in
+    let start = turn .before .before in
+    let a = start .before .before .args in
+    let all : turn .least2 .result ≡ start .least .result = all-taken _ _ (sub-rest turn) (c .if2 .left) in
+    let none : start .least .result - turn .least2 .result ≡ 0 = omega arith in
+    let place : 8 * (a .at / 8) + a .at % 8 ≡ a .at = omega arith in
+    rw (first .put-chunk .ensures, place, ← start .least .ensures, none, all, div-one)
 
 pub put-spec : {M : Type 1} → statement M
 put-spec =
     tie.close
     (tie.spec
-    Inv-loop
-    μ-loop
     least-requires
-    loop-holds
-    add-byte
-    add-byte-2
-    add-here
-    sub-rest
+    returns
     sub-least
     least-requires-2
-    sub-put-chunk
+    sub-rest
     cast-put-chunk
     shr-put-chunk
     put-chunk-requires
-    add-done
-    loop-less
-    loop-again
+    add-put-bytes
+    put-bytes-requires
     same-length
-    returns)
+    returns-2
+    same-length-2
+    returns-3)
