@@ -16,18 +16,19 @@ use Rattle.table.specs.Table.{Table, transactions, modes, tasks, IsTask}
 use Rattle.table.specs.Number.{before, number}
 use Rattle.table.specs.Fields.{HeadField, TaskField, Field, widthInTask, numberIn, IsTaskField}
 use Rattle.table.specs.Rules.{part, headRules, taskRules, transactionRules, bodyRules, tableRules}
+use Rattle.table.specs.Sum.{sum}
 use Rattle.table.proofs.Sum.{sum-ext, sum-next}
 use Rattle.table.proofs.Rules as rules
 use Rattle.refusals.specs.declared.Answer.{Answer}
 use Rattle.refusals.specs.declared.Answer.the-variants.{Accepted}
 use Rattle.refusals.specs.Answer.{_then_, firstOf}
-use Rattle.refusals.proofs.Findings.{then-joins, then-same, first-same}
+use Rattle.refusals.proofs.Findings.{then-joins, holds, then-same, first-same}
 use Rattle.row.specs.Row.{transactionCell, taskCell, timesCell, periodCell, modesCell, hasCell, offsetCell, jitterCell, blockingCell, deadlineCell, priorityCell, tableOf, headCell, bodyCell, timeCell}
 use Rattle.row.proofs.Readers.{head-cell, body-cell, time-cell}
 use Rattle.row.proofs.Held.{held-period, held-modes, held-tasks, held-offset, held-jitter, held-blocking, held-deadline, held-priority, held-time}
 use Rattle.format.specs.Places.{taskAt}
 use Rattle.format.specs.Write.{startOf, tableLook, tableFault}
-use Rattle.writer.specs.Scan.{fitsAt, lookAt, headNumber, taskNumber, headLook, headerFault, taskFault, headFault, transactionFault, bodyFault}
+use Rattle.writer.specs.Scan.{fitsAt, lookAt, headNumber, taskNumber, headLook, taskLook, headerFault, taskFault, headFault, transactionFault, bodyFault}
 
 -- a number is below 2 ^ w where shifting it down by w leaves nothing
 pub none-above : (n w : ℕ) → eqb (n / 2 ^ w) 0 ≡ ltb n (2 ^ w)
@@ -60,6 +61,17 @@ task-same many f g place same =
           (λ m below so-far. ap (λ (n : ℕ). fitsAt n (widthInTask (TaskField.time m)) (place (TaskField.time m))) (same (TaskField.time m) below)),
       sum-ext many {f = λ m. f (TaskField.time m)} {g = λ m. g (TaskField.time m)} (λ m below. same (TaskField.time m) below),
     )
+
+-- a task whose numbers fit, whose deadline is not 0 and that runs has no fault, wherever it would start
+pub no-fault :
+    (row : List ℕ) (m k : ℕ)
+    → ((f : TaskField) → IsTaskField m f → taskNumber row k f < 2 ^ widthInTask f)
+    → 1 ≤ taskNumber row k TaskField.deadline
+    → 1 ≤ sum m (λ i. timeCell row k i)
+    → (q : ℕ) → taskFault row m k q ≡ Accepted
+no-fault row m k small due runs q =
+    rules.clear-task limits then-joins m (taskLook row k q)
+    record { there = λ f has. holds _ _ (lt-ltb _ _ (small f has)); due = due; runs = runs }
 
 module _ (row : List ℕ) where
   -- ---- transaction u, which is not too many

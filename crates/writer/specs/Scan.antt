@@ -1,12 +1,13 @@
 -- What the scan of a row looks at in turn: the rules of each part of the table, its numbers as the row's readers give them, its
 -- place as it is counted up on the way.
 use mathlib.Core.List.{List}
-use Prim.Native.Nat.{ℕ, _+_, _^_}
+use Prim.Native.Nat.{ℕ, _+_, _^_, _≤_, _<_}
 use lib.Dec.{ltb}
 use Rattle.refusals.specs.declared.Answer.{Answer}
 use Rattle.refusals.specs.declared.Refusal.the-variants.{TooLarge}
 use Rattle.refusals.specs.Answer.{_then_, checked}
-use Rattle.table.specs.Limits.{limits}
+use Rattle.table.specs.Sum.{sum}
+use Rattle.table.specs.Limits.{limits, timeWidth}
 use Rattle.table.specs.Fields.{HeadField, TaskField, Field, widthInHead, widthInTask}
 use Rattle.table.specs.Fields.HeadField.{period, modes, tasks}
 use Rattle.table.specs.Fields.TaskField.{offset, jitter, blocking, deadline, priority, time}
@@ -43,6 +44,11 @@ headLook row u p = lookAt (headNumber row u) widthInHead (placeInHead p)
 
 abbrev pub taskLook : List ℕ → (k q : ℕ) → Look TaskField
 taskLook row k q = lookAt (taskNumber row k) widthInTask (placeInTask q)
+
+-- the times of the task with number k, of m modes, fit their fields, and one of them is not 0
+pub record TimesSound (row : List ℕ) (m k : ℕ) : Type 0 where
+  pub small : (i : ℕ) → i < m → timeCell row k i < 2 ^ timeWidth
+  pub runs : 1 ≤ sum m (λ i. timeCell row k i)
 
 -- ---- the rules of each part
 

@@ -8,22 +8,32 @@ use row::Table;
 use row::Task;
 use row::Transaction;
 ghost use mathlib.Core.Path.{_≡_};
-ghost use Prim.Native.Nat.{_+_, _*_, _^_, _<_, _≤_};
+ghost use mathlib.Core.Bool.{true};
+ghost use Prim.Native.Nat.{ℕ, _+_, _*_, _/_, _^_, _<_, _≤_};
 ghost use Rattle.table.specs.Sum.{sum};
 ghost use Rattle.table.specs.Limits.{timeWidth, transactionsMost, modesMost, tasksMost, tasksInAll};
 ghost use Rattle.table.specs.Table.{transactions};
+ghost use Rattle.refusals.specs.declared.Answer.the-variants.{Accepted};
 ghost use Rattle.refusals.specs.Answer.{_then_, firstOf};
 ghost use Rattle.row.specs.Row.{modesCell, hasCell, tableOf, headCell, timeCell};
 ghost use Rattle.format.specs.Places.{taskWidth, taskAt};
 ghost use Rattle.format.specs.Write.{tableFault};
-ghost use Rattle.writer.specs.Scan.{fitsAt, headerFault, taskFault, headFault, transactionFault, bodyFault};
+ghost use Rattle.writer.specs.Scan.{fitsAt, TimesSound, headerFault, taskFault, headFault, transactionFault, bodyFault};
+
+// What a number has above its lowest bits: 0 where it fits a field of that width.
+fn above(number: u32, width: usize) -> u32
+    requires { ⌜ width < 32 ⌝ }
+    ensures { λ r. ⌜ r ≡ number / 2 ^ width ⌝ }
+{
+    number >> width
+}
 
 // A number is too large for a field of that width.
 fn fits(number: u32, width: usize, at: usize) -> Answer
     requires { ⌜ width < 32 ⌝ }
     ensures { λ r. ⌜ r ≡ fitsAt number width at ⌝ }
 {
-    check(number >> width == 0, Refusal::TooLarge, at)
+    check(above(number, width) == 0, Refusal::TooLarge, at)
 }
 
 // A field that has a rule: its number is too large for it, and then what the rule finds.
@@ -85,8 +95,47 @@ fn times_sum(row: &[u32], modes: usize, k: usize) -> u64
     all
 }
 
-// Task k, which would start at a bit position.
-fn task(row: &[u32], modes: usize, k: usize, at: usize) -> Answer
+// The times of task k fit their fields, and one of them is not 0.
+fn times_sound(row: &[u32], modes: usize, k: usize) -> bool
+    requires { ⌜ modes < 16 ⌝ }
+    ensures { λ r. ⌜ (r ≡ true → TimesSound (now (row .entry)) modes k) ⌝ }
+{
+    let mut all: u64 = 0;
+    let mut m: usize = 0;
+    while m < modes {
+        let time = Table::time(row, k, m);
+        if above(time, Task::TIME_WIDTH) == 0 {
+            all = all + time as u64;
+        } else {
+            return false;
+        }
+        m += 1;
+    }
+    0 < all
+}
+
+// Task k has no fault, as nearly every task: asked before its checks one by one, by one test for the five numbers before its times,
+// of which nothing may lie above their fields.
+fn is_sound(row: &[u32], modes: usize, k: usize) -> bool
+    requires { ⌜ modes < 16 ⌝ }
+    ensures { λ r. ⌜ (r ≡ true → (at : ℕ) → taskFault (now (row .entry)) modes k at ≡ Accepted) ⌝ }
+{
+    let due = Table::deadline(row, k);
+    let over = above(Table::offset(row, k), Task::OFFSET_WIDTH)
+        + above(Table::jitter(row, k), Task::JITTER_WIDTH)
+        + above(Table::blocking(row, k), Task::BLOCKING_WIDTH)
+        + above(due, Task::DEADLINE_WIDTH)
+        + above(Table::priority(row, k), Task::PRIORITY_WIDTH);
+    if over == 0 {
+        if 0 < due {
+            return times_sound(row, modes, k);
+        }
+    }
+    false
+}
+
+// The first fault of task k, which would start at a bit position, check by check.
+fn task_fault(row: &[u32], modes: usize, k: usize, at: usize) -> Answer
     requires { ⌜ modes < 16 ⌝ }
     requires { ⌜ at < 2 ^ 32 ⌝ }
     ensures { λ r. ⌜ r ≡ taskFault (now (row .entry)) modes k at ⌝ }
@@ -117,6 +166,20 @@ fn task(row: &[u32], modes: usize, k: usize, at: usize) -> Answer
         ))
         .then(times_fit(row, modes, k, times))
         .then(rules::times(times_sum(row, modes, k), times))
+}
+
+// The same, where the checks are made only of a task that may have a fault.
+fn task(row: &[u32], modes: usize, k: usize, at: usize) -> Answer
+    requires { ⌜ modes < 16 ⌝ }
+    requires { ⌜ at < 2 ^ 32 ⌝ }
+    ensures { λ r. ⌜ r ≡ taskFault (now (row .entry)) modes k at ⌝ }
+{
+    let sound = is_sound(row, modes, k);
+    if sound {
+        Answer::Accepted
+    } else {
+        task_fault(row, modes, k, at)
+    }
 }
 
 // So many tasks from number `first` on; that one would start at a bit position.

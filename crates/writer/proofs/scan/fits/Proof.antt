@@ -4,17 +4,14 @@ use borrow.Author.Needs.{needs}
 use Rattle.writer.proofs.scan.fits.Statement.{statement}
 use Rattle.writer.proofs.scan.fits.Tie as tie
 
-cast-check : tie.Need-cast-check
-cast-check c = search needs
-
-shr-check : tie.Need-shr-check
-shr-check c = search needs
+above-requires : tie.Need-above-requires
+above-requires c κs = search needs
 
 check-requires : tie.Need-check-requires
 check-requires c κs = search needs
 
 returns : tie.Need-returns
-returns c = rw (c .check .ensures, none-above (c .before .args .number) (c .before .args .width))
+returns c = rw (c .check .ensures, c .before .above .ensures, none-above (c .before .before .args .number) (c .before .before .args .width))
 
 pub fits-spec : {M : Type 1} → statement M
-fits-spec = tie.close (tie.spec cast-check shr-check check-requires returns)
+fits-spec = tie.close (tie.spec above-requires check-requires returns)
