@@ -1,5 +1,5 @@
-/* Reading and writing in straightforward C: one walk over the fields, into a row or an image of its own, which is handed
-   over at the end, so that a refusal leaves what the caller lent. */
+/* Reading and writing in C: one walk over the fields, into a row or an image of its own, which is handed over at the end, so
+   that a refusal leaves what the caller lent. The reading walk serves both ways to take a field. */
 
 #include "rows.h"
 
@@ -21,21 +21,22 @@ static uint64_t answer(uint32_t number, size_t value) { return (uint64_t)number 
 
 /* Reading: a field into its cell. Returns the number of the refusal, or 0; bits->start is then the place. */
 
-static int take(struct bits *bits, uint32_t *cell, unsigned width) {
+INLINED int take(struct bits *bits, taking *field, uint32_t *cell, unsigned width) {
     int64_t value = field(bits, width);
     *cell = (uint32_t)value;
     return value < 0;
 }
 
-static int read_task(struct bits *bits, uint32_t *body, uint32_t modes) {
-    if (take(bits, &body[OFFSET], 24) || take(bits, &body[JITTER], 24) || take(bits, &body[BLOCKING], 24)) return 1;
-    if (take(bits, &body[DEADLINE], 26)) return 1;
+INLINED int read_task(struct bits *bits, taking *field, uint32_t *body, uint32_t modes) {
+    if (take(bits, field, &body[OFFSET], 24) || take(bits, field, &body[JITTER], 24)) return 1;
+    if (take(bits, field, &body[BLOCKING], 24)) return 1;
+    if (take(bits, field, &body[DEADLINE], 26)) return 1;
     if (body[DEADLINE] == 0) return 8;
-    if (take(bits, &body[PRIORITY], 8)) return 1;
+    if (take(bits, field, &body[PRIORITY], 8)) return 1;
     size_t first_time = bits->at;
     uint32_t runs = 0;
     for (uint32_t mode = 0; mode < modes; mode++) {
-        if (take(bits, &body[TIMES + mode], 24)) return 1;
+        if (take(bits, field, &body[TIMES + mode], 24)) return 1;
         runs |= body[TIMES + mode];
     }
     if (runs == 0) {
@@ -45,27 +46,27 @@ static int read_task(struct bits *bits, uint32_t *body, uint32_t modes) {
     return 0;
 }
 
-static int read_row(struct bits *bits, uint32_t *row) {
-    if (take(bits, &row[EDITION], 4)) return 1;
+INLINED int read_row(struct bits *bits, taking *field, uint32_t *row) {
+    if (take(bits, field, &row[EDITION], 4)) return 1;
     if (row[EDITION] != 1) return 2;
-    if (take(bits, &row[FRAME], 24)) return 1;
+    if (take(bits, field, &row[FRAME], 24)) return 1;
     if (row[FRAME] == 0) return 3;
-    if (take(bits, &row[COUNT], 6)) return 1;
+    if (take(bits, field, &row[COUNT], 6)) return 1;
     if (row[COUNT] < 1 || row[COUNT] > TRANSACTIONS) return 4;
     uint32_t tasks = 0;
     for (uint32_t v = 0; v < row[COUNT]; v++) {
         uint32_t *head = &row[HEADER + v * HEAD];
-        if (take(bits, &head[PERIOD], 24)) return 1;
+        if (take(bits, field, &head[PERIOD], 24)) return 1;
         if (head[PERIOD] == 0 || row[FRAME] % head[PERIOD] != 0) return 5;
-        if (take(bits, &head[MODE_COUNT], 4)) return 1;
+        if (take(bits, field, &head[MODE_COUNT], 4)) return 1;
         if (head[MODE_COUNT] < 1 || head[MODE_COUNT] > MODES) return 6;
-        if (take(bits, &head[TASK_COUNT], 5)) return 1;
+        if (take(bits, field, &head[TASK_COUNT], 5)) return 1;
         uint32_t count = head[TASK_COUNT];
         if (count < 1 || count > TASKS_IN_TRANSACTION || tasks + count > TASKS) return 7;
         head[FIRST] = tasks;
         for (uint32_t end = tasks + count; tasks < end; tasks++) {
             uint32_t *body = &row[BODIES + tasks * BODY];
-            int refusal = read_task(bits, body, head[MODE_COUNT]);
+            int refusal = read_task(bits, field, body, head[MODE_COUNT]);
             if (refusal != 0) return refusal;
             body[OWNER] = v;
         }
@@ -78,13 +79,21 @@ static int read_row(struct bits *bits, uint32_t *row) {
     return bits->at < 8 * bits->length ? 11 : 0;
 }
 
-uint64_t plain_read(const uint8_t *image, size_t length, uint32_t *cells) {
+INLINED uint64_t read_by(taking *field, const uint8_t *image, size_t length, uint32_t *cells) {
     uint32_t row[CELLS] = {0};
     struct bits bits = {image, length, 0, 0};
-    int refusal = read_row(&bits, row);
+    int refusal = read_row(&bits, field, row);
     if (refusal != 0) return answer((uint32_t)refusal, bits.start);
     memcpy(cells, row, sizeof row);
     return 0;
+}
+
+uint64_t plain_read(const uint8_t *image, size_t length, uint32_t *cells) {
+    return read_by(plain_field, image, length, cells);
+}
+
+uint64_t whole_read(const uint8_t *image, size_t length, uint32_t *cells) {
+    return read_by(whole_field, image, length, cells);
 }
 
 /* Writing: the bytes so far, and the bits of the next one, which are the lowest of `held`. */
