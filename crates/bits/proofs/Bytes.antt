@@ -43,7 +43,7 @@ byte-value image i h = prefix image i 8 h (omega arith) ∙ div-one (getD image 
 
 module _ (image : List ℕ) (bytes : (k : ℕ) → getD image k 0 < 256) where
   -- a byte more
-  next-byte : (i n : ℕ) → valueAt image (8 * i) (8 * n + 8) ≡ valueAt image (8 * i) (8 * n) * 256 + getD image (i + n) 0
+  pub next-byte : (i n : ℕ) → valueAt image (8 * i) (8 * n + 8) ≡ valueAt image (8 * i) (8 * n) * 256 + getD image (i + n) 0
   next-byte i n =
       let place : 8 * i + 8 * n ≡ 8 * (i + n) = omega arith in
       rw (value-split image (8 * i) (8 * n) 8, place, byte-value image (i + n) (bytes (i + n)))

@@ -6,7 +6,6 @@ use Prim.Native.Nat.{ℕ, _^_}
 use Rattle.bits.specs.Bits.{bitAt, valueAt, fieldBits, fieldAt}
 use Rattle.bits.specs.Put.{bitPut, bitsPut}
 use Rattle.bits.specs.declared.Field.the-variants.{Holds, Ends, NoWidth}
-use Rattle.bits.proofs.Fields.{numberOf}
 
 abbrev start : List ℕ
 start = 0x10 ∷ 0x00 ∷ 0x00 ∷ 0xA0 ∷ 0x40 ∷ []
@@ -35,9 +34,9 @@ behind-the-end : fieldAt [] 0 1 ≡ Ends
 unfolding fieldAt valueAt bitAt
 behind-the-end = refl
 
--- bit 33 is the image's last 1: the bits past the end, answered by no number, say 0 after it
-past-the-end : numberOf (valueAt start 33 10) (fieldAt start 33 10) ≡ 2 ^ 9
-unfolding fieldAt valueAt bitAt
+-- bit 33 is the image's last 1: the bits past the end say 0 after it
+past-the-end : valueAt start 33 10 ≡ 2 ^ 9
+unfolding valueAt bitAt
 past-the-end = refl
 
 too-wide : fieldAt start 0 33 ≡ NoWidth

@@ -1,16 +1,14 @@
 -- Laws of fields, over any image, any position and any width: the range of a field, fields that follow one
--- another, and the number of a field as it is answered.
+-- another, a field within a wider one, and the number that a field is answered with.
 use mathlib.Core.Path.{_≡_, refl, sym}
 use mathlib.Core.List.{List}
-use mathlib.Core.Bool.{Bool, true, false}
+use mathlib.Core.Bool.{Bool, true, false, _&&_}
 use Prim.Native.Nat.{ℕ, zero, suc, _+_, _-_, _*_, _/_, _%_, _^_, _<_, _≤_}
 use native.Mathlib.Nat.{mod-lt, add-zero, add-suc, add-assoc, mul-one, pow-suc, mul-assoc}
 use native.Mathlib.Omega.{arith}
-use lib.Dec.{lit<}
+use lib.Dec.{lit<, leb}
 use lib.Pow.{high, low}
-use borrow.Author.Tests.{le-leb}
 use Rattle.bits.specs.Bits.{widest, bitAt, valueAt, isInside, pickField, fieldAt}
-use Rattle.bits.specs.declared.Field.{Field}
 use Rattle.bits.specs.declared.Field.the-variants.{Holds, Ends, NoWidth}
 
 pub bit-below : (image : List ℕ) (p : ℕ) → bitAt image p < 2
@@ -42,18 +40,12 @@ value-cut image p v w n within =
     let whole : v + w + (n - v - w) ≡ n = omega arith in
     sym (rw whole at (value-within image p v w (n - v - w)))
 
--- the number of a field as it is answered; n is what the bits up to and past the end of the image say
-abbrev pub numberOf : ℕ → Field → ℕ
-numberOf n (Holds v) = v
-numberOf n Ends = n
-numberOf n NoWidth = 0
-
--- of a field that is not too wide the answer gives the number of its bits: a field of no bits says 0
-pub field-number : (image : List ℕ) (p w : ℕ) → w ≤ widest → numberOf (valueAt image p w) (fieldAt image p w) ≡ valueAt image p w
-unfolding fieldAt valueAt
-field-number image p zero narrow = refl
-field-number image p (suc w) narrow = rw (le-leb 1 (suc w) (omega arith), le-leb (suc w) widest narrow) (whole (isInside image p (suc w)))
+-- the number that a field is answered with is that of its bits
+pub number-of-field : (image : List ℕ) (p w : ℕ) {v : ℕ} → fieldAt image p w ≡ Holds v → v ≡ valueAt image p w
+unfolding fieldAt
+number-of-field image p w {v} answered = of-tests (leb 1 w && leb w widest) (isInside image p w) answered
   where
-    whole : (t : Bool) → numberOf (valueAt image p (suc w)) (pickField t (Holds (valueAt image p (suc w))) Ends) ≡ valueAt image p (suc w)
-    whole true = refl
-    whole false = refl
+    of-tests : (s t : Bool) → pickField s (pickField t (Holds (valueAt image p w)) Ends) NoWidth ≡ Holds v → v ≡ valueAt image p w
+    of-tests true true h = cc
+    of-tests true false h = cc
+    of-tests false t h = cc

@@ -73,11 +73,14 @@ pub fn read(image: &[u8], at: usize, width: usize) -> Field
 pub fn value(image: &[u8], at: usize, width: usize) -> u32
     ensures { λ r. ⌜ r ≡ valueAt (now (image .entry)) at (min width widest) ⌝ }
 {
-    match read(image, at, narrowed(width)) {
-        Field::Holds(v) => v,
-        Field::Ends => value_at(image, at, width),
-        Field::NoWidth => 0,
+    let end = narrowed(width);
+    // the reader's own test, asked here too: so that of its way only the quick part is laid into every caller
+    if at / 8 + SPAN <= image.len() {
+        if let Field::Holds(v) = read(image, at, end) {
+            return v;
+        }
     }
+    value_at(image, at, end)
 }
 
 // Where five bytes are there the field is whole: one test serves both.
@@ -126,23 +129,21 @@ fn value_in(image: &[u8], first: usize, from: usize, width: usize) -> u32
     }
 }
 
-// The same of any field, where the image may end inside the five bytes.
+// The same of any field, by as many bytes as it has bits in, those past the end of the image 0.
 fn value_at(image: &[u8], at: usize, width: usize) -> u32
     ensures { λ r. ⌜ r ≡ valueAt (now (image .entry)) at (min width widest) ⌝ }
 {
     let first = at / 8;
-    let high = four(
-        byte(image, first),
-        byte(image, first + 1),
-        byte(image, first + 2),
-        byte(image, first + 3),
-    );
-    let end = narrowed(width);
-    cut(
-        five(high, byte(image, first + 4)),
-        FIVE_BYTES - at % 8 - end,
-        end,
-    )
+    let w = narrowed(width);
+    let end = at % 8 + w;
+    let bytes = (end + 7) / 8;
+    let mut x: u64 = 0;
+    let mut k: usize = 0;
+    while k < bytes {
+        x = x * 256 + byte(image, first + k);
+        k += 1;
+    }
+    cut(x, 8 * bytes - end, w)
 }
 
 fn narrowed(width: usize) -> usize
@@ -152,10 +153,14 @@ fn narrowed(width: usize) -> usize
 }
 
 // A byte, 0 past the end of the image.
-fn byte(image: &[u8], i: usize) -> u8
+fn byte(image: &[u8], i: usize) -> u64
     ensures { λ r. ⌜ r ≡ getD (now (image .entry)) i 0 ⌝ }
 {
-    if i < image.len() { image[i] } else { 0 }
+    if i < image.len() {
+        wide(image[i]) as u64
+    } else {
+        0
+    }
 }
 
 // The number that four bytes say. In 32 bits, so that the compiler makes one load of four bytes in a row.

@@ -1,101 +1,114 @@
--- `bits::value_at` meets its contract: a field within its five bytes, those past the end 0.
-use borrow.Author.Needs.{needs}
-use mathlib.Core.Path.{_≡_}
-use Prim.Native.Nat.{ℕ, _+_, _*_, _/_, _%_, _<_, min}
+-- `bits::value_at` meets its contract. The loop's invariant: `x` is the number that the first k bytes say.
+use mathlib.Core.Path.{_≡_, refl, _∙_}
+use denote.Ref.{now}
+use Prim.Native.Nat.{ℕ, _+_, _*_, _/_, _%_, _^_, _≤_, _<_, _-_, min, zero-le}
+use native.Mathlib.Nat.{lt-of-lt-of-le}
 use native.Mathlib.Omega.{arith}
 use lib.ListN.{getD}
-use denote.Ref.{now}
-use Rattle.bits.specs.Bits.{widest}
-use Rattle.bits.proofs.Fields.{value-cut}
-use Rattle.bits.proofs.Bytes.{four-bytes, five-bytes}
+use lib.Pow.{pow-mono}
+use Rattle.bits.specs.Bits.{widest, valueAt}
+use Rattle.bits.proofs.Fields.{value-below, value-cut}
+use Rattle.bits.proofs.Bytes.{next-byte}
 use Rattle.bits.proofs.value_at.Statement.{statement}
 use Rattle.bits.proofs.value_at.Tie as tie
 
-byte-requires : tie.Need-byte-requires
-byte-requires c κs = search needs
+abbrev Inv-loop : tie.InvT-loop
+Inv-loop image at width first w end bytes x₀ k₀ x k = (k ≤ bytes) × (x ≡ valueAt image (8 * first) (8 * k))
 
-add-byte : tie.Need-add-byte
-add-byte c = search needs
+abbrev μ-loop : tie.MeasureT-loop
+μ-loop image at width first w end bytes x₀ k₀ x k = bytes - k
 
-byte-requires-2 : tie.Need-byte-requires-2
-byte-requires-2 c κs = search needs
+-- a turn has at most four bytes behind it, which are below 2 ^ 32
+few : (c : tie.In-loop Inv-loop μ-loop) → c .before .loop .k < 5
+few c = omega (arith, c .before .before .narrowed .ensures)
 
-add-byte-2 : tie.Need-add-byte-2
-add-byte-2 c = search needs
+small : (c : tie.In-loop Inv-loop μ-loop) → c .before .loop .x < 2 ^ 32
+small c =
+    rw (c .before .loop .inv .1)
+    (lt-of-lt-of-le (value-below _ _ (8 * c .before .loop .k)) (pow-mono {j = 32} (omega (arith, few c))))
 
-byte-requires-3 : tie.Need-byte-requires-3
-byte-requires-3 c κs = search needs
+one : (c : tie.After-byte Inv-loop μ-loop) → c .byte .result < 256
+one c = omega (arith, c .byte .ensures, c .before .before .before .before .shared-slice-known .given (c .before .before .before .before .before .args .at / 8 + c .before .before .loop .k))
 
-add-byte-3 : tie.Need-add-byte-3
-add-byte-3 c = search needs
+narrowed-requires : tie.Need-narrowed-requires Inv-loop μ-loop
+narrowed-requires c κs = tt
 
-byte-requires-4 : tie.Need-byte-requires-4
-byte-requires-4 c κs = search needs
+add-end : tie.Need-add-end Inv-loop μ-loop
+add-end c = omega (arith, c .narrowed .ensures)
 
-four-requires : tie.Need-four-requires
-four-requires c κs = search needs
+add-bytes : tie.Need-add-bytes Inv-loop μ-loop
+add-bytes c = omega (arith, c .narrowed .ensures)
 
-narrowed-requires : tie.Need-narrowed-requires
-narrowed-requires c κs = search needs
+loop-holds : tie.Need-loop-holds Inv-loop μ-loop
+unfolding valueAt
+loop-holds c = (zero-le, refl)
 
-add-byte-4 : tie.Need-add-byte-4
-add-byte-4 c = search needs
+mul-x : tie.Need-mul-x Inv-loop μ-loop
+mul-x c = omega (arith, small c)
 
-byte-requires-5 : tie.Need-byte-requires-5
-byte-requires-5 c κs = search needs
+add-byte : tie.Need-add-byte Inv-loop μ-loop
+add-byte c = omega (arith, few c)
 
-five-requires : tie.Need-five-requires
-five-requires c κs = search needs
+byte-requires : tie.Need-byte-requires Inv-loop μ-loop
+byte-requires c κs = tt
 
-sub-cut : tie.Need-sub-cut
-sub-cut c = search needs
+add-x : tie.Need-add-x Inv-loop μ-loop
+add-x c = omega (arith, small (c .before), one c)
 
-sub-cut-2 : tie.Need-sub-cut-2
-sub-cut-2 c = search needs
+add-k : tie.Need-add-k Inv-loop μ-loop
+add-k c = omega (arith, few (c .before))
 
-cut-requires : tie.Need-cut-requires
-cut-requires c κs = search needs
+loop-less : tie.Need-loop-less Inv-loop μ-loop
+loop-less c = omega arith
 
-returns : tie.Need-returns
+loop-again : tie.Need-loop-again Inv-loop μ-loop
+loop-again c =
+    let at-loop = c .before .before in
+    let known = at-loop .before .before in
+    let image = now (known .before .args .image) in
+    let bytes : (i : ℕ) → getD image i 0 < 256 = λ i. omega (arith, known .shared-slice-known .given i) in
+    let place : 8 * (at-loop .loop .k + 1) ≡ 8 * at-loop .loop .k + 8 = omega arith in
+    (omega arith, rw (place, next-byte image bytes (known .before .args .at / 8) (at-loop .loop .k), ← at-loop .loop .inv .1, c .byte .ensures))
+
+mul-cut : tie.Need-mul-cut Inv-loop μ-loop
+mul-cut c = omega (arith, c .before .before .narrowed .ensures)
+
+sub-cut : tie.Need-sub-cut Inv-loop μ-loop
+sub-cut c = omega arith
+
+cut-requires : tie.Need-cut-requires Inv-loop μ-loop
+cut-requires c κs = omega (arith, c .before .before .narrowed .ensures)
+
+returns : tie.Need-returns Inv-loop μ-loop
 returns c =
-    let fifth = c .before .before in
-    let joined = fifth .before .before in
-    let known = joined .before .before .before .before .before in
-    let a = known .before .args in
-    let bytes : (k : ℕ) → getD (now (a .image)) k 0 < 256 = λ k. omega (arith, known .shared-slice-known .given k) in
+    let at-loop = c .before .before in
+    let a = at-loop .before .before .before .args in
+    let w = min (a .width) widest in
+    let bytes = (a .at % 8 + w + 7) / 8 in
+    let all : at-loop .loop .k ≡ bytes = omega (arith, at-loop .before .narrowed .ensures) in
+    let down : 8 * bytes - (a .at % 8 + w) ≡ 8 * bytes - a .at % 8 - w = omega arith in
     let place : 8 * (a .at / 8) + a .at % 8 ≡ a .at = omega arith in
-    rw (
-      c .cut .ensures,
-      c .before .five .ensures,
-      fifth .byte5 .ensures,
-      fifth .before .narrowed .ensures,
-      joined .four .ensures,
-      joined .before .byte4 .ensures,
-      joined .before .before .byte3 .ensures,
-      joined .before .before .before .byte2 .ensures,
-      joined .before .before .before .before .byte .ensures,
-      ← four-bytes (now (a .image)) bytes (a .at / 8),
-      ← five-bytes (now (a .image)) bytes (a .at / 8),
-    )
-    (rw place at (value-cut (now (a .image)) (8 * (a .at / 8)) (a .at % 8) (min (a .width) widest) 40 (omega arith)))
+    rw (c .cut .ensures, at-loop .loop .inv .1, all, at-loop .before .narrowed .ensures, down)
+    (rw place at (value-cut (now (a .image)) (8 * (a .at / 8)) (a .at % 8) w (8 * bytes) (omega arith)))
 
 pub value-at-spec : {M : Type 1} → statement M
 value-at-spec =
     tie.close
     (tie.spec
-    byte-requires
-    add-byte
-    byte-requires-2
-    add-byte-2
-    byte-requires-3
-    add-byte-3
-    byte-requires-4
-    four-requires
+    Inv-loop
+    μ-loop
     narrowed-requires
-    add-byte-4
-    byte-requires-5
-    five-requires
+    add-end
+    add-bytes
+    loop-holds
+    mul-x
+    add-byte
+    byte-requires
+    add-x
+    add-k
+    loop-less
+    loop-again
+    mul-cut
     sub-cut
-    sub-cut-2
     cut-requires
     returns)
