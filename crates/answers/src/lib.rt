@@ -53,10 +53,7 @@ pub fn cells(image: &[u8], budget: u32, cells: &mut [u32]) -> Filled
     let answer = reading.answer;
     match answer {
         Answer::Refused(refusal, at) => Filled::Refused(refusal, at),
-        Answer::Accepted => {
-            let table = reading.table;
-            fill(&table.cells, budget, cells)
-        }
+        Answer::Accepted => { fill(&reading.table.cells, budget, cells) }
     }
 }
 
@@ -82,10 +79,7 @@ pub fn response(image: &[u8], task: u32, budget: u32) -> u64
     let answer = reading.answer;
     match answer {
         Answer::Refused(refusal, at) => told::pair(refusal.number(), at as u32),
-        Answer::Accepted => {
-            let table = reading.table;
-            response_of(&table.cells, reads::index(task), budget)
-        }
+        Answer::Accepted => { response_of(&reading.table.cells, reads::index(task), budget) }
     }
 }
 
@@ -97,10 +91,7 @@ pub fn parts(image: &[u8], task: u32, budget: u32) -> Made
     let answer = reading.answer;
     match answer {
         Answer::Refused(refusal, at) => Made::Refused(refusal, at),
-        Answer::Accepted => {
-            let table = reading.table;
-            pushed::parts_from(&table.cells, reads::index(task), budget)
-        }
+        Answer::Accepted => { pushed::parts_from(&reading.table.cells, reads::index(task), budget) }
     }
 }
 
@@ -113,9 +104,8 @@ pub fn charge(image: &[u8], task: u32, transaction: u32, whole: bool, t: u32) ->
     match answer {
         Answer::Refused(refusal, at) => Part::Refused(refusal, at),
         Answer::Accepted => {
-            let table = reading.table;
             pushed::charge_from(
-                &table.cells,
+                &reading.table.cells,
                 reads::index(task),
                 reads::index(transaction),
                 whole,

@@ -39,12 +39,15 @@ pub fn read(image: &[u8]) -> Reading
     ensures table { λ r. ⌜ r .table .cells ≡ rowFor (imageFault (now (image .entry))) (now (image .entry)) ⌝ }
 {
     let answer = scan::first_fault(image);
-    let mut table = Table::empty();
     let sound = answer.is_accepted();
+    let mut reading = Reading {
+        answer,
+        table: Table::empty(),
+    };
     if sound {
-        fill::fill(image, &mut table.cells);
+        fill::fill(image, &mut reading.table.cells);
     }
-    Reading { answer, table }
+    reading
 }
 
 // The same into lent cells, which stay as they were where the image is refused.

@@ -32,7 +32,7 @@ accepted c = sym (c .before .before .read .ensures .0) ∙ c .enum-told .given .
 
 fill-requires : tie.Need-fill-requires
 fill-requires c κs =
-    let x = c .before .before .before .before in
+    let x = c .before .before .before in
     let y = x .before .before in
     read-lent (now (y .before .before .before .args .image)) (y .read .result .table .cells) (accepted x)
     (y .read .ensures .1)
@@ -46,7 +46,7 @@ same-length c = search needs
 returns-2 : tie.Need-returns-2
 returns-2 c =
     let f = c .before .before in
-    let x = f .before .before .before .before .before in
+    let x = f .before .before .before .before in
     let y = x .before .before in
     let s = y .before .before .before .args in
     Fills.accepted (accepted x)

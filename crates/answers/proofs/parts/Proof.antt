@@ -35,7 +35,7 @@ accepted c = sym (c .before .before .read .ensures .0) ∙ c .enum-told .given .
 
 parts-from-requires : tie.Need-parts-from-requires
 parts-from-requires c κs =
-    let x = c .before .before .before .before in
+    let x = c .before .before .before in
     let y = x .before .before in
     read-lent (now (y .before .before .args .image)) (y .read .result .table .cells) (accepted x) (y .read .ensures .1)
 
@@ -44,7 +44,7 @@ returns c = OfImage.refused (refused (c .before))
 
 returns-2 : tie.Need-returns-2
 returns-2 c =
-    let x = c .before .before .before .before .before in
+    let x = c .before .before .before .before in
     let y = x .before .before in
     let s = y .before .before .args in
     OfImage.accepted (accepted x)

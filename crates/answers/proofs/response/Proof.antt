@@ -47,7 +47,7 @@ index-requires c κs = search needs
 
 response-of-requires : tie.Need-response-of-requires
 response-of-requires c κs =
-    let x = c .before .before .before .before in
+    let x = c .before .before .before in
     let y = x .before .before in
     read-lent (now (y .before .before .args .image)) (y .read .result .table .cells) (accepted x) (y .read .ensures .1)
 
@@ -56,7 +56,7 @@ returns c = rw (c .pair .ensures, c .before .number .ensures) (Responds.refused 
 
 returns-2 : tie.Need-returns-2
 returns-2 c =
-    let x = c .before .before .before .before .before in
+    let x = c .before .before .before .before in
     let y = x .before .before in
     let s = y .before .before .args in
     Responds.accepted (accepted x)
