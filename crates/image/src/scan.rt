@@ -74,7 +74,7 @@ fn some_time(image: &[u8], modes: usize, at: usize) -> u32
     0
 }
 
-fn first_in_task(image: &[u8], modes: usize, at: usize) -> Answer
+fn task_fault(image: &[u8], modes: usize, at: usize) -> Answer
     requires { ⌜ modes < 16 ⌝ }
     requires { ⌜ at < 2 ^ 32 ⌝ }
     ensures { λ r. ⌜ r ≡ taskFault (now (image .entry)) modes at ⌝ }
@@ -121,7 +121,7 @@ fn task(image: &[u8], modes: usize, at: usize) -> Answer
     if sound {
         Answer::Accepted
     } else {
-        first_in_task(image, modes, at)
+        task_fault(image, modes, at)
     }
 }
 
@@ -147,7 +147,7 @@ fn tasks(image: &[u8], modes: usize, count: usize, at: usize) -> Answer
 }
 
 // The counts and the period of a transaction, where `before` tasks stand before it. Its head is read once, and handed on.
-fn first_in_head(image: &[u8], frame: u32, before: usize, at: usize, held: Transaction) -> Answer
+fn head_fault(image: &[u8], frame: u32, before: usize, at: usize, held: Transaction) -> Answer
     requires { ⌜ frame ≡ frameIn (now image) ⌝ }
     requires { ⌜ held ≡ headAt (now image) at ⌝ }
     requires { ⌜ at < 2 ^ 32 ⌝ }
@@ -175,7 +175,7 @@ fn head(image: &[u8], frame: u32, before: usize, at: usize, held: Transaction) -
             return Answer::Accepted;
         }
     }
-    first_in_head(image, frame, before, at, held)
+    head_fault(image, frame, before, at, held)
 }
 
 fn transaction(image: &[u8], frame: u32, before: usize, at: usize, held: Transaction) -> Answer

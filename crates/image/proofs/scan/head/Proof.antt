@@ -21,12 +21,12 @@ returns c =
     sym (whole-head (now (a .image)) (a .before) (a .at) (sym (whole .inside .ensures) ∙ asked .before .if1 .taken)
     (sym (rw (start .pre .1 .0, start .pre .0) at (asked .is-head .ensures)) ∙ c .if2 .taken))
 
-first-in-head-requires : tie.Need-first-in-head-requires
-first-in-head-requires c κs = search needs
+head-fault-requires : tie.Need-head-fault-requires
+head-fault-requires c κs = search needs
 
 returns-2 : tie.Need-returns-2
 returns-2 c = search needs
 
 pub head-spec : {M : Type 1} → statement M
 head-spec =
-    tie.close (tie.spec inside-requires is-head-requires returns first-in-head-requires returns-2)
+    tie.close (tie.spec inside-requires is-head-requires returns head-fault-requires returns-2)

@@ -7,8 +7,8 @@ use Rattle.image.proofs.scan.task.Tie as tie
 is-sound-requires : tie.Need-is-sound-requires
 is-sound-requires c κs = search needs
 
-first-in-task-requires : tie.Need-first-in-task-requires
-first-in-task-requires c κs = search needs
+task-fault-requires : tie.Need-task-fault-requires
+task-fault-requires c κs = search needs
 
 returns : tie.Need-returns
 returns c = sym (c .before .is-sound .ensures (c .if1 .taken))
@@ -17,4 +17,4 @@ returns-2 : tie.Need-returns-2
 returns-2 c = search needs
 
 pub task-spec : {M : Type 1} → statement M
-task-spec = tie.close (tie.spec is-sound-requires first-in-task-requires returns returns-2)
+task-spec = tie.close (tie.spec is-sound-requires task-fault-requires returns returns-2)

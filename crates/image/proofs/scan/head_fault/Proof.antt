@@ -1,9 +1,9 @@
--- `scan::first_in_head` meets its contract: one chain of checks, rewritten by what each call ensures, the last first.
+-- `scan::head_fault` meets its contract: one chain of checks, rewritten by what each call ensures, the last first.
 use borrow.Author.Needs.{needs}
 use Rattle.table.specs.Rules.{headRules}
 use Rattle.refusals.proofs.Findings.{three-rules}
-use Rattle.image.proofs.scan.first_in_head.Statement.{statement}
-use Rattle.image.proofs.scan.first_in_head.Tie as tie
+use Rattle.image.proofs.scan.head_fault.Statement.{statement}
+use Rattle.image.proofs.scan.head_fault.Tie as tie
 
 add-modes : tie.Need-add-modes
 add-modes c = search needs
@@ -69,8 +69,8 @@ returns c =
     )
     (three-rules _ _ _ _ _ _)
 
-pub first-in-head-spec : {M : Type 1} → statement M
-first-in-head-spec =
+pub head-fault-spec : {M : Type 1} → statement M
+head-fault-spec =
     tie.close
     (tie.spec
     add-modes

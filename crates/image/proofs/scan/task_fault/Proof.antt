@@ -1,11 +1,11 @@
--- `scan::first_in_task` meets its contract: one chain of checks, rewritten by what each call ensures, the last first.
+-- `scan::task_fault` meets its contract: one chain of checks, rewritten by what each call ensures, the last first.
 use native.Mathlib.Nat.{add-zero}
 use Rattle.table.specs.Rules.{taskRules}
 use Rattle.refusals.specs.Answer.{firstOf}
 use Rattle.refusals.proofs.Findings.{one-rule}
 use borrow.Author.Needs.{needs}
-use Rattle.image.proofs.scan.first_in_task.Statement.{statement}
-use Rattle.image.proofs.scan.first_in_task.Tie as tie
+use Rattle.image.proofs.scan.task_fault.Statement.{statement}
+use Rattle.image.proofs.scan.task_fault.Tie as tie
 
 add-jitter : tie.Need-add-jitter
 add-jitter c = search needs
@@ -82,8 +82,8 @@ returns c =
     rw (c .then7 .ensures, c .before .times .ensures, c .before .before .then6 .ensures, c .before .before .before .times-end .ensures, c .before .before .before .before .then5 .ensures, c .before .before .before .before .before .ends5 .ensures, c .before .before .before .before .before .before .then4 .ensures, c .before .before .before .before .before .before .before .deadline .ensures, c .before .before .before .before .before .before .before .before .then3 .ensures, c .before .before .before .before .before .before .before .before .before .ends4 .ensures, c .before .before .before .before .before .before .before .before .before .before .then2 .ensures, c .before .before .before .before .before .before .before .before .before .before .before .ends3 .ensures, c .before .before .before .before .before .before .before .before .before .before .before .before .then .ensures, c .before .before .before .before .before .before .before .before .before .before .before .before .before .ends2 .ensures, c .before .before .before .before .before .before .before .before .before .before .before .before .before .before .ends .ensures, c .before .before .before .before .before .before .before .before .before .before .before .before .before .before .before .some-time .ensures, c .before .before .before .before .before .before .before .before .before .before .before .before .before .before .before .before .value .ensures, add-zero)
     (one-rule _ _ _ _ _ _)
 
-pub first-in-task-spec : {M : Type 1} → statement M
-first-in-task-spec =
+pub task-fault-spec : {M : Type 1} → statement M
+task-fault-spec =
     tie.close
     (tie.spec
     add-jitter
