@@ -16,7 +16,7 @@
 #include "sumpcandle.h"
 
 /* The sides, ours first. Beside those that fill the cells of every task stands the clearing that ours does. */
-enum { READERS = 3, WRITERS = 2, FILLERS = 2, CLEARING = FILLERS, SIDES = 3 };
+enum { READERS = 3, WRITERS = 2, FILLERS = 3, CLEARING = FILLERS, SIDES = 4 };
 
 typedef uint64_t reader(const uint8_t *image, size_t length, uint32_t *cells);
 typedef uint64_t writer(const uint32_t *cells, uint8_t *buffer, size_t length);
@@ -24,7 +24,7 @@ typedef uint64_t filler(const uint8_t *image, size_t length, uint32_t budget, ui
 
 static reader *const readers[READERS] = {sumpcandle_read, plain_read, whole_read};
 static writer *const writers[WRITERS] = {sumpcandle_write, plain_write};
-static filler *const fillers[FILLERS] = {sumpcandle_cells, fast_cells};
+static filler *const fillers[FILLERS] = {sumpcandle_cells, fast_cells, whole_cells};
 
 /* What each side makes of a table. The mark is there before, to tell what a refusal leaves. */
 enum { BUDGET = 1000000, RESULTS = SUMPCANDLE_TASKS * SUMPCANDLE_RESULT_CELLS, MARK = 0xA5 };
@@ -267,7 +267,8 @@ static void print_cells(const struct table *table, long rounds) {
     struct best best = timed(fill_often, table, CLEARING + 1, rounds);
     double rest = best.of[0] - best.of[CLEARING];
     start_line("cells", table, best.of[0]);
-    printf("%11.0f%12.0f%11.0f%12.2f\n", best.of[CLEARING], rest, best.of[1], rest / best.of[1]);
+    printf("%11.0f%12.0f%11.0f%12.2f%11.0f%12.2f\n", best.of[CLEARING], rest, best.of[1], rest / best.of[1], best.of[2],
+           rest / best.of[2]);
 }
 
 static void start_lines(const char *columns) { printf("%-6s%-9s%6s%11s%s\n", "call", "table", "bytes", "ours", columns); }
@@ -307,7 +308,7 @@ int main(int count, char **arguments) {
     for (int i = 0; i < TABLES; i++) {
         if (i != REFUSED) print_write(&tables[i], rounds);
     }
-    start_lines("   clearing        rest       fast   rest/fast");
+    start_lines("   clearing        rest       fast   rest/fast      whole  rest/whole");
     print_cells(&tables[S], rounds);
     return 0;
 }

@@ -1,6 +1,6 @@
 -- Laws of fields, over any image, any position and any width: the range of a field, fields that follow one
 -- another, a field within a wider one, and the number that a field is answered with.
-use mathlib.Core.Path.{_≡_, refl, sym}
+use mathlib.Core.Path.{_≡_, sym}
 use mathlib.Core.List.{List}
 use mathlib.Core.Bool.{Bool, true, false, _&&_}
 use Prim.Native.Nat.{ℕ, zero, suc, _+_, _-_, _*_, _/_, _%_, _^_, _<_, _≤_}

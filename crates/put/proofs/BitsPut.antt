@@ -1,12 +1,12 @@
 -- Bits that are put a byte at a time: a field's next bits behind its first, and bits within one byte, which are one store.
 use mathlib.Core.Path.{_≡_, refl, sym, ap, _∙_}
-use mathlib.Core.List.{List, [], _∷_, _++_, append-assoc, append-nil}
+use mathlib.Core.List.{List, [], _∷_}
 use Prim.Native.Nat.{ℕ, zero, suc, _+_, _-_, _*_, _/_, _%_, _^_, _≤_, _<_}
-use native.Mathlib.Nat.{add-zero, add-suc, suc-add, div-one, mod-one, mul-one, mul-assoc, pow-suc}
+use native.Mathlib.Nat.{add-zero, add-suc, mod-one, mul-one, mul-assoc, pow-suc}
 use native.Mathlib.Decide.{decLt}
-use native.Mathlib.Numerals.{add-one, one-add}
+use native.Mathlib.Numerals.{add-one}
 use native.Mathlib.Omega.{arith}
-use lib.ListN.{length, getD, set, length-append, length-set}
+use lib.ListN.{length, getD, set}
 use lib.Seq.{set-set, set-out, getD-set-same}
 use lib.Pow.{shr-shr, shl-lt, shl-shr, mod-pow-add}
 use Rattle.bits.specs.Bits.{valueAt, fieldBits}

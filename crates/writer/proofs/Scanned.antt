@@ -23,7 +23,7 @@ use Rattle.refusals.specs.declared.Answer.{Answer}
 use Rattle.refusals.specs.declared.Answer.the-variants.{Accepted}
 use Rattle.refusals.specs.Answer.{_then_, firstOf}
 use Rattle.refusals.proofs.Findings.{then-joins, holds, then-same, first-same}
-use Rattle.row.specs.Row.{transactionCell, taskCell, timesCell, periodCell, modesCell, hasCell, offsetCell, jitterCell, blockingCell, deadlineCell, priorityCell, tableOf, headCell, bodyCell, timeCell}
+use Rattle.row.specs.Row.{taskCell, periodCell, modesCell, hasCell, offsetCell, jitterCell, blockingCell, deadlineCell, priorityCell, tableOf, headCell, bodyCell, timeCell}
 use Rattle.row.proofs.Readers.{head-cell, body-cell, time-cell}
 use Rattle.row.proofs.Held.{held-period, held-modes, held-tasks, held-offset, held-jitter, held-blocking, held-deadline, held-priority, held-time}
 use Rattle.format.specs.Places.{taskAt}

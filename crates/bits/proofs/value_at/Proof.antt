@@ -1,5 +1,5 @@
 -- `bits::value_at` meets its contract. The loop's invariant: `x` is the number that the first k bytes say.
-use mathlib.Core.Path.{_≡_, refl, _∙_}
+use mathlib.Core.Path.{_≡_, refl}
 use denote.Ref.{now}
 use Prim.Native.Nat.{ℕ, _+_, _*_, _/_, _%_, _^_, _≤_, _<_, _-_, min, zero-le}
 use native.Mathlib.Nat.{lt-of-lt-of-le}

@@ -1,9 +1,9 @@
 -- `bits::value_in` meets its contract: a field within its four bytes, or its five.
 use borrow.Author.Needs.{needs}
-use mathlib.Core.Path.{_≡_, sym, _∙_}
-use mathlib.Core.List.{List}
-use Prim.Native.Nat.{ℕ, _*_}
+use mathlib.Core.Path.{_≡_, sym, ap, _∙_}
+use Prim.Native.Nat.{ℕ, _+_, _*_, _<_}
 use native.Mathlib.Omega.{arith}
+use lib.ListN.{getD}
 use denote.Ref.{now}
 use Rattle.bits.specs.Bits.{valueAt}
 use Rattle.bits.proofs.Fields.{value-cut}
@@ -81,8 +81,10 @@ returns-2 : tie.Need-returns-2
 returns-2 c =
     let called = c .before .before .before .before in
     let a = start called .args in
-    rw (c .cut2 .ensures, c .before .five .ensures, high called, ← five-bytes (now (a .image)) (λ k. omega (arith, c .before .before .shared-slice-known6 .given k)) (a .first))
-    (value-cut (now (a .image)) (8 * a .first) (a .from) (a .width) 40 (omega arith))
+    let bytes : (k : ℕ) → getD (now (a .image)) k 0 < 256 = λ k. omega (arith, c .before .before .shared-slice-known6 .given k) in
+    let all : c .before .five .result ≡ valueAt (now (a .image)) (8 * a .first) 40 =
+    c .before .five .ensures ∙ ap (λ (x : ℕ). x * 256 + getD (now (a .image)) (a .first + 4) 0) (high called) ∙ sym (five-bytes (now (a .image)) bytes (a .first)) in
+    rw (c .cut2 .ensures, all) (value-cut (now (a .image)) (8 * a .first) (a .from) (a .width) 40 (omega arith))
 
 pub value-in-spec : {M : Type 1} → statement M
 value-in-spec =

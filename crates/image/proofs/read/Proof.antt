@@ -1,5 +1,5 @@
 -- `read` meets its contract: the row is filled where the image is accepted, and is the empty row elsewhere.
-use mathlib.Core.Path.{_≡_, refl, sym, ap, _∙_}
+use mathlib.Core.Path.{refl, sym, ap, _∙_}
 use denote.Ref.{now}
 use Rattle.refusals.specs.Answer.{isAccepted}
 use Rattle.format.specs.Fault.{imageFault, IsAccepted}

@@ -6,7 +6,7 @@ use native.Mathlib.Omega.{arith}
 use borrow.Author.Tests.{le-leb, leb-true, ltb-true}
 use denote.Ref.{now}
 use Rattle.table.specs.Sum.{sum}
-use Rattle.format.specs.Said.{deadlineIn, timeIn}
+use Rattle.format.specs.Said.{timeIn}
 use Rattle.image.proofs.Sound.{whole-task}
 use Rattle.image.proofs.scan.is_sound.Statement.{statement}
 use Rattle.image.proofs.scan.is_sound.Tie as tie
