@@ -2,6 +2,7 @@ pub mod Places
 pub mod Faults
 pub mod Reached
 pub mod Accepted
+pub mod Sound
 pub mod Said
 pub mod Kept
 pub mod Reach

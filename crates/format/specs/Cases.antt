@@ -12,7 +12,7 @@ use Rattle.format.specs.Fault.{headFault, imageFault}
 use Rattle.format.specs.Computing.{computing}
 
 -- one task, frame 10, T 10, C 3, P 5, D 10
-abbrev last : List ℕ
+abbrev pub last : List ℕ
 last =
     (0x10 ∷ 0x00 ∷ 0x00 ∷ 0xA0 ∷ 0x40 ∷ 0x00 ∷ 0x02 ∷ 0x84 ∷ 0x20 ∷ [])
     ++ replicate 11 0x00

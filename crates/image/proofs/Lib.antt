@@ -1,4 +1,3 @@
-pub mod Sound
 pub mod Cells
 pub mod Filled
 pub mod Decoded

@@ -121,13 +121,13 @@ fn put_tasks(
     }
 }
 
-// The transactions with their tasks. The result is how many tasks there are in all.
-fn put_transactions(image: &[u8], cells: &mut [u32; Table::CELLS]) -> u32
+// The transactions, so many, with their tasks. The result is how many tasks there are in all.
+fn put_transactions(image: &[u8], count: usize, cells: &mut [u32; Table::CELLS]) -> u32
     requires { ⌜ IsAccepted (now image) ⌝ }
+    requires { ⌜ count ≡ countIn (now image) ⌝ }
     ensures { λ r. ⌜ r ≡ tasksBefore (now (image .entry)) (countIn (now (image .entry))) ⌝ }
     ensures { λ _. ⌜ now (cells .exit) ≡ transactionsOver (now (image .entry)) (countIn (now (image .entry))) (now (cells .entry)) ⌝ }
 {
-    let count = bits::value(image, Table::COUNT_AT, Table::TRANSACTIONS_WIDTH) as usize;
     let mut before: usize = 0;
     let mut at = Table::FIRST_AT;
     let mut u: usize = 0;
@@ -162,7 +162,7 @@ pub(crate) fn fill(image: &[u8], cells: &mut [u32; Table::CELLS])
     let edition = bits::value(image, 0, Table::EDITION_WIDTH);
     let frame = bits::value(image, Table::FRAME_AT, Table::FRAME_WIDTH);
     let count = bits::value(image, Table::COUNT_AT, Table::TRANSACTIONS_WIDTH);
-    let all = put_transactions(image, cells);
+    let all = put_transactions(image, count as usize, cells);
     cells[Table::EDITION_CELL] = edition;
     cells[Table::FRAME_CELL] = frame;
     cells[Table::COUNT_CELL] = count;

@@ -1,10 +1,14 @@
--- Document 01's last image, written into buffers that are too long, exact and a byte short, and its table with a deadline of 0.
+-- Document 01's last image, written into buffers that are too long, exact and a byte short, and its table with a deadline of 0; and its
+-- task's time of 3 in the cell of a row.
 use mathlib.Core.Path.{_≡_, refl}
 use mathlib.Core.List.{List, [], _∷_, _++_, map}
 use Prim.Native.Nat.{ℕ}
+use native.Mathlib.Omega.{arith}
+use lib.Dec.{lit<, lit≤}
 use lib.ListN.{length, replicate}
 use Rattle.bits.specs.Bits.{fieldBits}
 use Rattle.refusals.specs.declared.Refusal.the-variants.{DeadlineZero, BufferShort}
+use Rattle.table.specs.Sum.{sum}
 use Rattle.table.specs.Lists.{joined}
 use Rattle.table.specs.Sample.{plain, lone}
 use Rattle.table.specs.Computing.{computing}
@@ -12,6 +16,8 @@ use Rattle.format.specs.Image.{taskBits, transactionBits, tableBits, numberOf, 
 use Rattle.format.specs.Write.{startOf, tableFault, writeFault}
 use Rattle.writer.specs.declared.Writing.{Writing}
 use Rattle.writer.specs.declared.Writing.the-variants.{Written, Refused}
+use Rattle.row.specs.Row.{bodyCell, timeCell}
+use Rattle.writer.specs.Scan.{TimesSound}
 use Rattle.writer.specs.Write.{answered, holding}
 
 -- n bytes of 0xFF
@@ -39,3 +45,23 @@ buffers :
     ∷ []
 unfolding computing startOf tableFault writeFault imageOf tableBits transactionBits taskBits fieldBits bytesOf numberOf joined
 buffers = refl
+
+-- a row whose first task has that time in its first mode
+abbrev timed : ℕ → List ℕ
+timed C = replicate 171 0 ++ (C ∷ [])
+
+runs : TimesSound (timed 3) 1 0
+unfolding timeCell bodyCell sum
+runs =
+    record {
+      small = λ i below. let first : i ≡ 0 = omega arith in rw first (lit< tt);
+      runs = lit≤ tt;
+    }
+
+never-runs : TimesSound (timed 0) 1 0 → ⊥
+unfolding timeCell bodyCell sum
+never-runs sound = let some = sound .runs in omega arith
+
+too-large : TimesSound (timed 16_777_216) 1 0 → ⊥
+unfolding timeCell bodyCell sum
+too-large sound = let small = sound .small 0 (lit< tt) in omega arith

@@ -13,6 +13,9 @@ value-requires-2 c κs = search needs
 value-requires-3 : tie.Need-value-requires-3
 value-requires-3 c κs = search needs
 
+cast-put-transactions : tie.Need-cast-put-transactions
+cast-put-transactions c = search needs
+
 put-transactions-requires : tie.Need-put-transactions-requires
 put-transactions-requires c κs = search needs
 
@@ -50,6 +53,7 @@ fill-spec =
     value-requires
     value-requires-2
     value-requires-3
+    cast-put-transactions
     put-transactions-requires
     element-write-cells
     element-write-cells-2

@@ -8,14 +8,14 @@ use Rattle.table.specs.Lists.{joined}
 use Rattle.format.specs.Places.{past, start}
 use Rattle.format.specs.Said.{countIn, tasksBefore}
 use Rattle.image.specs.Fill.{headsIn, ofTasksIn, everyTaskIn, transactionsOver}
-use Rattle.format.proofs.Places.{count-small, tasks-small, next-start, next-before, Near, near}
+use Rattle.format.proofs.Places.{tasks-small, next-start, next-before, Near, near}
 use Rattle.format.proofs.Accepted.{SoundHead, header, head}
 use Rattle.image.proofs.Cells.{head-cells, next-transaction}
 use Rattle.image.proofs.fill.put_transactions.Statement.{statement}
 use Rattle.image.proofs.fill.put_transactions.Tie as tie
 
 abbrev Inv-loop : tie.InvT-loop
-Inv-loop image cells₀ count before₀ at₀ u₀ cells before at u =
+Inv-loop image count cells₀ before₀ at₀ u₀ cells before at u =
     (count ≡ countIn image)
     × (u ≤ count)
     × (before ≡ tasksBefore image u)
@@ -23,11 +23,11 @@ Inv-loop image cells₀ count before₀ at₀ u₀ cells before at u =
     × (cells ≡ transactionsOver image u cells₀)
 
 abbrev μ-loop : tie.MeasureT-loop
-μ-loop image cells₀ count before₀ at₀ u₀ cells before at u = count - u
+μ-loop image count cells₀ before₀ at₀ u₀ cells before at u = count - u
 
 here : (c : tie.At-loop Inv-loop μ-loop) → (c .loop .u < 64) × (c .loop .before < 2048) × (c .loop .at < 1_000_000)
 here c =
-    let known : Near (now (c .before .before .before .args .image)) (c .loop .u) = near _ _ (omega arith) in
+    let known : Near (now (c .before .before .args .image)) (c .loop .u) = near _ _ (omega arith) in
     omega arith
 
 -- the counts of this transaction: the sum so far with its tasks is within the row
@@ -36,22 +36,16 @@ held :
     → (c .head-at .result .modes ≤ 8) × (c .head-at .result .tasks < 32) × (c .before .before .loop .before + c .head-at .result .tasks ≤ 64)
 held c =
     let at-loop = c .before .before in
-    let start-args = at-loop .before .before .before in
+    let start-args = at-loop .before .before in
     let image = now (start-args .args .image) in
     let sound : SoundHead image (tasksBefore image (at-loop .loop .u)) (start image (at-loop .loop .u)) =
-    head image (start-args .pre) (at-loop .loop .u) (omega arith) in
+    head image (start-args .pre .0) (at-loop .loop .u) (omega arith) in
     rw (c .head-at .ensures, at-loop .loop .inv .3, at-loop .loop .inv .2)
     (sound .fewModes, tasks-small image _, sound .inAll)
 
-value-requires : tie.Need-value-requires Inv-loop μ-loop
-value-requires c κs = tt
-
-cast-count : tie.Need-cast-count Inv-loop μ-loop
-cast-count c = rw (c .value .ensures) (omega (arith, count-small (now (c .before .before .args .image))))
-
 loop-holds : tie.Need-loop-holds Inv-loop μ-loop
 unfolding transactionsOver headsIn everyTaskIn joined start tasksBefore sum
-loop-holds c = (c .value .ensures, zero-le, refl, refl, refl)
+loop-holds c = (c .before .pre .1, zero-le, refl, refl, refl)
 
 head-at-requires : tie.Need-head-at-requires Inv-loop μ-loop
 head-at-requires c κs = omega (arith, here (c .before))
@@ -98,7 +92,7 @@ loop-again c =
     let stored = c .before .before in
     let asked = stored .before .before .before .before in
     let at-loop = asked .before .before in
-    let a = at-loop .before .before .before in
+    let a = at-loop .before .before in
     let image = now (a .args .image) in
     let u = at-loop .loop .u in (
       at-loop .loop .inv .0,
@@ -114,7 +108,7 @@ loop-again c =
             at-loop .loop .inv .3,
           )
           (rw (head-cells (tasksBefore image u) image (start image u)) at
-          (next-transaction image (now (a .args .cells)) u (omega (arith, asked .before .loop-test .taken, header image (a .pre) .few)))),
+          (next-transaction image (now (a .args .cells)) u (omega (arith, asked .before .loop-test .taken, header image (a .pre .0) .few)))),
     )
 
 cast-result : tie.Need-cast-result Inv-loop μ-loop
@@ -123,7 +117,7 @@ cast-result c = omega (arith, here (c .before))
 returns : tie.Need-returns Inv-loop μ-loop
 returns c =
     let at-loop = c .before in
-    let past : at-loop .loop .u ≡ countIn (now (at-loop .before .before .before .args .image)) = omega arith in
+    let past : at-loop .loop .u ≡ countIn (now (at-loop .before .before .args .image)) = omega arith in
     (rw (← past) (at-loop .loop .inv .2), rw (← past) (at-loop .loop .inv .4))
 
 pub put-transactions-spec : {M : Type 1} → statement M
@@ -132,8 +126,6 @@ put-transactions-spec =
     (tie.spec
     Inv-loop
     μ-loop
-    value-requires
-    cast-count
     loop-holds
     head-at-requires
     mul-put-head

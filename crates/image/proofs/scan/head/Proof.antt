@@ -2,7 +2,7 @@
 use borrow.Author.Needs.{needs}
 use mathlib.Core.Path.{sym, _∙_}
 use denote.Ref.{now}
-use Rattle.image.proofs.Sound.{whole-head}
+use Rattle.format.proofs.Sound.{whole-head}
 use Rattle.image.proofs.scan.head.Statement.{statement}
 use Rattle.image.proofs.scan.head.Tie as tie
 

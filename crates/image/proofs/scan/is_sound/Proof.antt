@@ -7,7 +7,7 @@ use borrow.Author.Tests.{le-leb, leb-true, ltb-true}
 use denote.Ref.{now}
 use Rattle.table.specs.Sum.{sum}
 use Rattle.format.specs.Said.{timeIn}
-use Rattle.image.proofs.Sound.{whole-task}
+use Rattle.format.proofs.Sound.{whole-task}
 use Rattle.image.proofs.scan.is_sound.Statement.{statement}
 use Rattle.image.proofs.scan.is_sound.Tie as tie
 

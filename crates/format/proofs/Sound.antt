@@ -1,11 +1,11 @@
 -- The quick way to an answer: what lies in the image whole and keeps its rules has no fault.
-use mathlib.Core.Path.{_≡_}
+use mathlib.Core.Path.{_≡_, refl}
 use mathlib.Core.Bool.{true, _&&_}
 use mathlib.Core.List.{List}
 use Prim.Native.Nat.{ℕ, _+_, _*_, _≤_}
 use native.Mathlib.Omega.{arith}
 use lib.ListN.{length}
-use lib.Dec.{leb}
+use lib.Dec.{leb, lit≤}
 use borrow.Author.Tests.{le-leb, leb-true, eqb-true}
 use Rattle.bits.specs.Bits.{isInside}
 use Rattle.refusals.specs.declared.Answer.the-variants.{Accepted}
@@ -15,9 +15,11 @@ use Rattle.table.specs.Limits.{limits, modesMost, tasksMost, tasksInAll}
 use Rattle.table.specs.Fields.{HeadField, TaskField, IsTaskField, widthInHead, widthInTask}
 use Rattle.table.specs.Rules.{isBetween, isDivisor}
 use Rattle.table.proofs.Rules as rules
 use Rattle.format.specs.Places.{placeInHead, placeInTask, headWidth, taskWidth}
 use Rattle.format.specs.Said.{frameIn, periodIn, modesIn, tasksIn, deadlineIn, timeIn}
+use Rattle.format.specs.Computing.{computing}
+use Rattle.format.specs.Cases.{last}
 use Rattle.format.specs.Fault.{endsAt, lookAt, headFault, taskFault}
 
 -- a part of what is whole
 within : (image : List ℕ) (p w q v : ℕ) → isInside image p w ≡ true → q + v ≤ p + w → endsAt image q v ≡ Accepted
@@ -65,3 +67,13 @@ whole-head image before p whole keeps =
     reach HeadField.period = omega arith
     reach HeadField.modes = omega arith
     reach HeadField.tasks = omega arith
+
+-- document 01's last image: its head and its one task
+
+last-head : headFault last 0 34 ≡ Accepted
+unfolding computing
+last-head = whole-head last 0 34 refl refl
+
+last-task : taskFault last 1 67 ≡ Accepted
+unfolding computing
+last-task = whole-task last 1 67 refl (lit≤ tt) (lit≤ tt)
