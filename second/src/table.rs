@@ -1,4 +1,4 @@
-//! The decoded table and its limits, as 'The table image' gives them. Nothing here knows bits.
+//! The decoded table and its limits, as 'The table image' and request 4 of document 02 give them. Nothing here knows bits.
 
 /// One task. `times` has one execution time C for each mode of its transaction.
 #[derive(Clone, Debug, PartialEq, Eq)]
@@ -26,12 +26,12 @@ pub struct Table {
 
 impl Table {
     pub const EDITION: i64 = 1;
-    pub const TRANSACTIONS: usize = 32;
-    pub const TASKS: usize = 64;
+    pub const TRANSACTIONS: usize = 63;
+    pub const TASKS: usize = 128;
     /// H, in ticks.
     pub const HORIZON: i64 = 16_777_215;
     /// In bytes.
-    pub const LONGEST_IMAGE: usize = 2521;
+    pub const LONGEST_IMAGE: usize = 5033;
 
     /// 'Tasks are numbered from 0 in image order': (transaction, task within it) of each number.
     pub fn numbered(&self) -> Vec<(usize, usize)> {

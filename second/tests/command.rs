@@ -132,10 +132,10 @@ fn a_program_that_names_somebody_else_is_a_difference() {
     }
 }
 
-/// One byte of one buffer, or one cell that was read back.
+/// One byte of one buffer, or the last cell that was read back: five words stand before the cells of a row.
 #[test]
 fn a_program_that_writes_one_thing_otherwise_is_a_difference() {
-    for word in [3, 1066] {
+    for word in [3, 5 + 5 + 63 * 5 + 128 * 14] {
         let script = format!("\"$0\" write | awk 'NR == 9 {{ $({word}) = $({word}) \"0\" }} {{ print }}'");
         let program = ["--program", "sh", "-c", &script, env!("CARGO_BIN_EXE_second")];
         let output = output(&[&["write", "--cases", "20", "--seed", "4"], &program[..]].concat());

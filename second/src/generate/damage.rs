@@ -11,6 +11,7 @@ pub enum Damage {
     CutInField,
     CutByte,
     BadField(Kind),
+    OtherCount,
     TooManyTasks,
     NoTime,
     Padding,
@@ -32,6 +33,7 @@ pub const DAMAGES: &[Damage] = &[
     Damage::BadField(Kind::ModeCount),
     Damage::BadField(Kind::TaskCount),
     Damage::BadField(Kind::Deadline),
+    Damage::OtherCount,
     Damage::TooManyTasks,
     Damage::NoTime,
     Damage::Padding,
@@ -57,6 +59,10 @@ pub fn damaged(random: &mut Random, table: &Table, damage: Damage) -> Vec<u8> {
             spoil(random, &mut fields, kind, table.frame);
             pack(&fields)
         }
+        Damage::OtherCount => {
+            fields[2].value = other_count(random, table) as i64;
+            pack(&fields)
+        }
         Damage::TooManyTasks => crate::draft::image(&crowded(random)),
         Damage::NoTime => {
             clear_times(random, &mut fields);
@@ -65,7 +71,7 @@ pub fn damaged(random: &mut Random, table: &Table, damage: Damage) -> Vec<u8> {
         Damage::Padding => padding(random, &fields),
         Damage::BytesFollow => {
             let mut image = pack(&fields);
-            let count = random.pick(&[1, 1, 2, 3, 2600]);
+            let count = random.pick(&[1, 1, 2, 3, Table::LONGEST_IMAGE + 79]);
             image.extend((0..count).map(|_| if random.percent(50) { 0 } else { random.next() as u8 }));
             image
         }
@@ -109,7 +115,8 @@ pub fn refused_number(random: &mut Random, kind: Kind, frame: i64) -> i64 {
     match kind {
         Kind::Edition => random.pick(&[0, 2, 3, 4, 8, 9, 14, 15]),
         Kind::Frame | Kind::Deadline => 0,
-        Kind::TransactionCount => random.pick(&[0, 33, 34, 63]),
+        // No other is refused: 6 bits hold no count above the limit.
+        Kind::TransactionCount => 0,
         Kind::Period => random.pick(&[0, frame - 1, frame + 1, 2 * frame, frame / 2 + 1]) % (1 << 24),
         Kind::ModeCount => random.pick(&[0, 9, 10, 15]),
         Kind::TaskCount => random.pick(&[0, 17, 18, 31]),
@@ -117,17 +124,26 @@ pub fn refused_number(random: &mut Random, kind: Kind, frame: i64) -> i64 {
     }
 }
 
-/// More than 64 tasks, none of the counts above 16.
-fn crowded(random: &mut Random) -> Table {
-    let mut table = tables::table(random, TableKind::ManyTasks);
-    let whole = table.transactions[0].clone();
-    let count = |table: &Table| table.transactions.iter().map(|t| t.tasks.len()).sum::<usize>();
-    while count(&table) <= Table::TASKS {
-        let tasks = random.within(1, whole.tasks.len() as i64) as usize;
-        let part = Transaction { tasks: whole.tasks[..tasks].to_vec(), ..whole.clone() };
-        table.transactions.push(part);
+/// A number of transactions that there may be, but not this table's: the image goes on, or is at its end.
+fn other_count(random: &mut Random, table: &Table) -> usize {
+    let (own, former) = (table.transactions.len(), tables::FORMER_TRANSACTIONS);
+    let mut counts = vec![own - 1, own + 1, former, former + 1, Table::TRANSACTIONS];
+    counts.retain(|&count| count != own && (1..=Table::TRANSACTIONS).contains(&count));
+    random.pick(&counts)
+}
+
+/// More tasks than there may be, none of the counts above 16: one too many, or some, and sometimes a transaction behind
+/// the one where they are too many.
+pub fn crowded(random: &mut Random) -> Table {
+    let kind = random.pick(&[TableKind::ManyTasks, TableKind::ManyTransactions]);
+    let mut table = tables::table(random, kind);
+    let some = random.within(1, Transaction::TASKS as i64) as usize;
+    let more = random.pick(&[1, 1, some]);
+    tables::come_to(random, &mut table, Table::TASKS + more);
+    if table.transactions.len() < Table::TRANSACTIONS && random.percent(50) {
+        let behind = table.transactions[random.below(table.transactions.len())].clone();
+        table.transactions.push(behind);
     }
-    table.transactions.truncate(Table::TRANSACTIONS);
     table
 }
 

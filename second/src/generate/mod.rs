@@ -57,7 +57,8 @@ fn kind(random: &mut Random) -> tables::TableKind {
     let kind = random.pick(tables::KINDS);
     let is_replaced = match kind {
         ManyTransactions | ManyModes => random.percent(60),
-        ManyTasks | AtAllLimits => random.percent(85),
+        ManyTasks => random.percent(90),
+        AtAllLimits => random.percent(94),
         _ => false,
     };
     if is_replaced {
@@ -91,11 +92,11 @@ fn budget(random: &mut Random, table: &Table) -> u32 {
         1..=4 => random.pick(&[0, 0, 1, 2]),
         5..=8 => random.within(0, 12) as u32,
         9..=15 => random.within(0, most as i64) as u32,
-        16..=30 => {
+        16..=24 => {
             let some = random.pick(&row).evaluations;
             around(random, some)
         }
-        31..=60 => around(random, needed),
+        25..=60 => around(random, needed),
         61..=90 => random.within(needed as i64, 2 * needed as i64) as u32,
         _ if row.iter().all(|cells| has_ended(&cells)) => random.pick(&[u32::MAX, u32::MAX - 1, 1 << 31, 1_000_000]),
         _ => most,
@@ -108,13 +109,15 @@ fn around(random: &mut Random, needed: u32) -> u32 {
 
 /// About this many charges are worked out at most to see which tasks of a table come to an end soon.
 const CHARGES_IN_LOOK: usize = 1_000_000;
+/// But each task may take so many evaluations, or the largest tables would all be left out.
+const EVALUATIONS_IN_LOOK: usize = 1000;
 /// And this many of each evaluation at most for the others, which may spend the program's budget: some tenths of a second.
 const CHARGES_OF_OTHERS: usize = 20;
 
 /// Whether a table takes long under the program's budget, if its tasks that come to no end soon spend all of it.
 pub fn is_dear(table: &Table) -> bool {
     let charges = charges_in_evaluation(table);
-    let few = CHARGES_IN_LOOK / (charges * table.numbered().len());
+    let few = (CHARGES_IN_LOOK / (charges * table.numbered().len())).max(EVALUATIONS_IN_LOOK);
     let row = all_cells(table, Charging::Imposed, few as u32);
     charges * row.iter().filter(|cells| cells.code == 23).count() > CHARGES_OF_OTHERS
 }

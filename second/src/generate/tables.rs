@@ -8,6 +8,10 @@ use crate::table::{Table, Task, Transaction};
 const FIELD_24: i64 = (1 << 24) - 1;
 const FIELD_26: i64 = (1 << 26) - 1;
 
+/// The limits that a table had before request 4 of document 02: whoever still knows them answers otherwise beyond them.
+pub const FORMER_TRANSACTIONS: usize = 32;
+const FORMER_TASKS: usize = 64;
+
 /// How large a field of ticks is, against the period of its transaction.
 #[derive(Clone, Copy)]
 enum Size {
@@ -128,7 +132,7 @@ pub fn table(random: &mut Random, kind: TableKind) -> Table {
         TableKind::ExactlyFull => fill(&mut table, 0),
         TableKind::JustOverloaded => fill(&mut table, 1),
         TableKind::AroundHorizon => reach_horizon(random, &mut table),
-        TableKind::ManyTasks => split_tasks(random, &mut table),
+        TableKind::ManyTasks => at_an_edge(random, &mut table),
         TableKind::EqualTasks => equal_tasks(random, &mut table),
         TableKind::EqualModes => {
             equal_modes(random, &mut table);
@@ -199,17 +203,21 @@ fn shape(random: &mut Random, kind: TableKind) -> Shape {
             Shape { frames: &[8_388_607, 16_777_214, 16_777_215], transactions: (1, 2), load: (10, 60), ..PLAIN }
         }
         TableKind::ManyTransactions => {
-            Shape { frames: WIDE_FRAMES, transactions: (20, 32), tasks: (1, 2), priorities: 40, ..PLAIN }
+            let (most, former) = (Table::TRANSACTIONS as i64, FORMER_TRANSACTIONS as i64);
+            let transactions = random.pick(&[(20, most), (former, former + 1), (most - 1, most)]);
+            let tasks = random.pick(&[(1, 1), (1, 3)]);
+            Shape { frames: WIDE_FRAMES, transactions, tasks, priorities: 40, ..PLAIN }
         }
         TableKind::ManyTasks => {
-            Shape { frames: WIDE_FRAMES, transactions: (1, 3), tasks: (10, 16), priorities: 40, ..PLAIN }
+            Shape { frames: WIDE_FRAMES, transactions: (1, 8), tasks: (8, 16), zeros: 60, priorities: 128, ..PLAIN }
         }
         TableKind::ManyModes => Shape { frames: WIDE_FRAMES, modes: (8, 8), tasks: (1, 6), zeros: 70, ..PLAIN },
         TableKind::AtAllLimits => {
-            let transactions = random.pick(&[(4, 4), (32, 32)]);
-            let tasks = (64 / transactions.0, 64 / transactions.0);
-            let zeros = if transactions.0 == 4 { 90 } else { 50 };
-            Shape { frames: WIDE_FRAMES, transactions, tasks, modes: (8, 8), zeros, priorities: 64, ..PLAIN }
+            // As many transactions as there may be, or as few as hold all the tasks.
+            let (most, few) = (Table::TRANSACTIONS as i64, (Table::TASKS / Transaction::TASKS) as i64);
+            let (count, tasks, zeros) = random.pick(&[(most, 3, 75), (few, Transaction::TASKS as i64, 93)]);
+            let (transactions, tasks, modes) = ((count, count), (tasks, tasks), (8, 8));
+            Shape { frames: WIDE_FRAMES, transactions, tasks, modes, zeros, priorities: 128, ..PLAIN }
         }
         TableKind::EqualTasks | TableKind::EqualModes | TableKind::EqualTransactions => Shape {
             frames: random.pick(&[TINY_FRAMES, SMALL_FRAMES]),
@@ -268,16 +276,17 @@ fn shaped(random: &mut Random, shape: &Shape) -> Table {
         let others = count - index - 1;
         let tasks = random.within(shape.tasks.0, shape.tasks.1).min(left - others).max(1);
         left -= tasks;
-        transactions.push(transaction(random, shape, frame, tasks, load / count));
+        transactions.push(transaction(random, shape, frame, tasks, load, count));
     }
     Table { frame, transactions }
 }
 
-fn transaction(random: &mut Random, shape: &Shape, frame: i64, count: i64, load: i64) -> Transaction {
+/// One of `of` transactions that share the load.
+fn transaction(random: &mut Random, shape: &Shape, frame: i64, count: i64, load: i64, of: i64) -> Transaction {
     let period = (shape.period)(random, frame);
     let modes = random.within(shape.modes.0, shape.modes.1) as usize;
     // Twice the mean, so that the sum of the tasks comes near the load.
-    let longest = (2 * period * load / (100 * count)).clamp(1, FIELD_24);
+    let longest = (2 * period * load / (100 * of * count)).clamp(1, FIELD_24);
     let tasks = (0..count).map(|_| task(random, shape, period, modes, longest)).collect();
     Transaction { period, modes, tasks }
 }
@@ -336,15 +345,34 @@ fn reach_horizon(random: &mut Random, table: &mut Table) {
     table.transactions[u].tasks[a].blocking = blocking.clamp(0, FIELD_24);
 }
 
-/// Sometimes the tasks come to 64 in all, the last transaction taking what is left.
-fn split_tasks(random: &mut Random, table: &mut Table) {
-    let count: usize = table.transactions.iter().map(|transaction| transaction.tasks.len()).sum();
-    let mut left = Table::TASKS - count;
-    while random.percent(70) && left > 0 {
-        let mut last = table.transactions[random.below(table.transactions.len())].clone();
-        last.tasks.truncate(left);
-        left -= last.tasks.len();
-        table.transactions.push(last);
+/// Mostly as many tasks as there may be, one less, or those at the former limit.
+fn at_an_edge(random: &mut Random, table: &mut Table) {
+    let drawn = table.numbered().len();
+    let count = random.pick(&[drawn, FORMER_TASKS, FORMER_TASKS + 1, Table::TASKS - 1, Table::TASKS]);
+    come_to(random, table, count);
+}
+
+/// So many tasks in all: the last ones are cut off, or some transactions come again, the last of which takes what is left.
+/// Where there is no room for a transaction, some get another task.
+pub fn come_to(random: &mut Random, table: &mut Table, count: usize) {
+    let mut left = count;
+    for transaction in &mut table.transactions {
+        transaction.tasks.truncate(left);
+        left -= transaction.tasks.len();
+    }
+    table.transactions.retain(|transaction| !transaction.tasks.is_empty());
+    while left > 0 {
+        let v = random.below(table.transactions.len());
+        if table.transactions.len() < Table::TRANSACTIONS {
+            let mut again = table.transactions[v].clone();
+            again.tasks.truncate(left);
+            left -= again.tasks.len();
+            table.transactions.push(again);
+        } else if table.transactions[v].tasks.len() < Transaction::TASKS {
+            let again = table.transactions[v].tasks[0].clone();
+            table.transactions[v].tasks.push(again);
+            left -= 1;
+        }
     }
 }
 

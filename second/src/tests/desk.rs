@@ -187,7 +187,7 @@ fn refused_words(kind: Kind, which: usize, value: i64) -> String {
 fn each_refusal_has_its_words_and_its_field() {
     let good = image(&s());
     let padded = [&good[..61], &[good[61] | 1]].concat();
-    let crowded = Table { frame: 20, transactions: vec![transaction(20, vec![task(0, &[1], 1); 13]); 5] };
+    let crowded = Table { frame: 20, transactions: vec![transaction(20, vec![task(0, &[1], 1); 13]); 10] };
     let cases = [
         (told(Text::Words, &[], &[]), "(1): it ends inside a field, at byte 0, bit 0: edition"),
         (
@@ -197,8 +197,8 @@ fn each_refusal_has_its_words_and_its_field() {
         (refused_words(Kind::Edition, 0, 15), "(2): edition is not 1, at byte 0, bit 0: edition"),
         (refused_words(Kind::Frame, 0, 0), "(3): the major frame is 0, at byte 0, bit 4: major frame"),
         (
-            refused_words(Kind::TransactionCount, 0, 33),
-            "(4): not 1 to 32 transactions, at byte 3, bit 4: number of transactions",
+            refused_words(Kind::TransactionCount, 0, 0),
+            "(4): not 1 to 63 transactions, at byte 3, bit 4: number of transactions",
         ),
         (
             refused_words(Kind::Period, 1, 15),
@@ -210,13 +210,13 @@ fn each_refusal_has_its_words_and_its_field() {
         ),
         (
             refused_words(Kind::TaskCount, 0, 17),
-            "(7): not 1 to 16 tasks in a transaction, or more than 64 in all, at byte 7, bit 6: number of tasks of \
+            "(7): not 1 to 16 tasks in a transaction, or more than 128 in all, at byte 7, bit 6: number of tasks of \
              transaction 0",
         ),
         (
             told(Text::Words, &image(&crowded), &[]),
-            "(7): not 1 to 16 tasks in a transaction, or more than 64 in all, at byte 869, bit 2: number of tasks of \
-             transaction 4",
+            "(7): not 1 to 16 tasks in a transaction, or more than 128 in all, at byte 1946, bit 1: number of tasks of \
+             transaction 9",
         ),
         (
             refused_words(Kind::Deadline, 0, 0),

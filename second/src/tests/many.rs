@@ -3,14 +3,15 @@
 use super::*;
 use crate::answer::{all_cells, answer, host};
 use crate::draft;
-use crate::generate::tables::{table, KINDS};
+use crate::generate::damage::crowded;
+use crate::generate::tables::{table, TableKind, KINDS};
 use crate::generate::who::asked;
 use crate::generate::{case, Case};
 use crate::image::read;
 use crate::random::Random;
 use crate::simulate::small::{simulate, Settings};
 use crate::stream::{self, Asked};
-use std::collections::BTreeMap;
+use std::collections::{BTreeMap, BTreeSet};
 
 #[test]
 fn good_tables_are_read_back() {
@@ -20,6 +21,36 @@ fn good_tables_are_read_back() {
             assert_eq!(read(&draft::image(&table)), Ok(table));
         }
     }
+}
+
+/// At the limits, one below them, and on both sides of the limits before request 4 of document 02.
+#[test]
+fn large_tables_come_to_the_limits() {
+    let (mut transactions, mut tasks) = (BTreeSet::new(), BTreeSet::new());
+    for index in 0..60 {
+        for kind in [TableKind::ManyTransactions, TableKind::ManyTasks, TableKind::AtAllLimits] {
+            let table = table(&mut Random::of(8, index), kind);
+            transactions.insert(table.transactions.len());
+            tasks.insert(table.numbered().len());
+        }
+    }
+    assert!(transactions.is_superset(&[32, 33, 62, 63].into()), "{transactions:?}");
+    assert!(tasks.is_superset(&[64, 65, 127, 128].into()), "{tasks:?}");
+}
+
+/// One too many or more, in the last transaction or before it; also among 63 of them.
+#[test]
+fn tasks_are_too_many_in_every_way() {
+    let mut seen = BTreeSet::new();
+    for index in 0..60 {
+        let table = crowded(&mut Random::of(9, index));
+        let sum = |v: usize| table.number(v, table.transactions[v].tasks.len());
+        let v = (0..table.transactions.len()).find(|&v| sum(v) > 128).expect("too many");
+        assert_eq!(read(&draft::image(&table)).map_err(|refusal| refusal.number), Err(7));
+        seen.insert((sum(v) == 129, v == table.transactions.len() - 1, table.transactions.len() == 63));
+    }
+    let ways = [false, true].map(|by_one| [false, true].map(|last| [false, true].map(|most| (by_one, last, most))));
+    assert!(seen.is_superset(&ways.into_iter().flatten().flatten().collect()), "{seen:?}");
 }
 
 /// Each refusal in one of 200 images, each code in one of 80 tasks, and no more spent budgets than one in five. Some

@@ -56,6 +56,12 @@ fn steps(fixed: &Fixed) -> Vec<Step> {
     steps
 }
 
+/// 63 transactions and 128 tasks in eight modes: as many of each as there may be. The task is in each place.
+fn longest(task: Task) -> Table {
+    let with = |count| transaction(20, vec![task.clone(); count]);
+    Table { frame: 20, transactions: [vec![with(2); 61], vec![with(3); 2]].concat() }
+}
+
 /// Sample S.
 fn s() -> Table {
     let due = |deadline: i64, task: Task| Task { deadline, ..task };

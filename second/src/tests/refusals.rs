@@ -47,7 +47,7 @@ fn every_cut_is_1_at_the_field_it_falls_in() {
 fn each_field_has_its_number() {
     each_refused(Kind::Edition, &[0, 2, 3, 15], 2);
     each_refused(Kind::Frame, &[0], 3);
-    each_refused(Kind::TransactionCount, &[0, 33, 63], 4);
+    each_refused(Kind::TransactionCount, &[0], 4);
     each_refused(Kind::Period, &[0, 3, 7, 19, 21, 40], 5);
     each_refused(Kind::ModeCount, &[0, 9, 15], 6);
     each_refused(Kind::TaskCount, &[0, 17, 31], 7);
@@ -55,14 +55,40 @@ fn each_field_has_its_number() {
     each_refused(Kind::Time, &[0], 9);
 }
 
+/// 6 bits hold no number of transactions that is too great: the image of S ends before their third.
+#[test]
+fn every_count_of_transactions_but_0_is_good() {
+    let mut fields = fields(&s());
+    for count in [3, 32, 33, 62, 63] {
+        fields[2].value = count;
+        assert_eq!(refused(&pack(&fields)), (1, 490));
+    }
+    for count in [1, 32, 33, 62, 63] {
+        let table = Table { frame: 20, transactions: vec![transaction(20, vec![task(0, &[1], 1)]); count] };
+        assert_eq!(read(&image(&table)), Ok(table));
+    }
+}
+
+/// At the transaction where they pass 128, be it the last or not.
 #[test]
 fn the_sum_of_tasks_counts_the_present_ones() {
-    let sixteen = transaction(20, vec![task(0, &[1], 1); 16]);
-    let mut table = Table { frame: 20, transactions: vec![sixteen; 4] };
-    assert!(read(&image(&table)).is_ok());
-    table.transactions.push(transaction(20, vec![task(0, &[1], 1)]));
-    let count = indices(&fields(&table), Kind::TaskCount)[4];
-    assert_eq!(refused(&image(&table)), (7, place(&fields(&table), count) as u32));
+    let with = |count| transaction(20, vec![task(0, &[1], 1); count]);
+    let table = |counts: &[usize]| Table { frame: 20, transactions: counts.iter().map(|&count| with(count)).collect() };
+    for counts in [&[16; 8][..], &[16, 16, 16, 16], &[16, 16, 16, 16, 1], &[13; 5], &[[15; 8], [1; 8]].concat()] {
+        assert!(read(&image(&table(counts))).is_ok(), "{counts:?}");
+    }
+    let crowded: [(&[usize], usize); 5] = [
+        (&[[16; 8].to_vec(), vec![1]].concat(), 8),
+        (&[[16; 8].to_vec(), vec![1, 1]].concat(), 8),
+        (&[[16; 7].to_vec(), vec![15, 2]].concat(), 8),
+        (&[[16; 7].to_vec(), vec![15, 16, 1, 1]].concat(), 8),
+        (&[vec![2; 60], vec![3; 3]].concat(), 62),
+    ];
+    for (counts, last) in crowded {
+        let table = table(counts);
+        let count = indices(&fields(&table), Kind::TaskCount)[last];
+        assert_eq!(refused(&image(&table)), (7, place(&fields(&table), count) as u32), "{counts:?}");
+    }
 }
 
 #[test]
@@ -89,7 +115,7 @@ fn padding_and_bytes_that_follow() {
         padded.push(0);
         assert_eq!(refused(&padded), (10, 490));
     }
-    for more in [vec![0], vec![255], vec![0; 3000]] {
+    for more in [vec![0], vec![255], vec![0; 6000]] {
         assert_eq!(refused(&[good.clone(), more].concat()), (11, 496));
     }
 }
@@ -108,11 +134,15 @@ fn the_first_fault_counts() {
 
 #[test]
 fn the_longest_image() {
-    let two = transaction(20, vec![task(0, &[1; 8], 1); 2]);
-    let table = Table { frame: 20, transactions: vec![two; 32] };
-    assert_eq!(image(&table).len(), 2521);
+    let table = longest(task(0, &[1; 8], 1));
+    // 34 + 63·33 + 128·298 bits.
+    assert_eq!(place(&fields(&table), fields(&table).len()), 40_257);
+    assert_eq!(image(&table).len(), Table::LONGEST_IMAGE);
     assert_eq!(read(&image(&table)), Ok(table.clone()));
     let mut longer = image(&table);
     longer.push(0);
-    assert_eq!(refused(&longer), (11, 20_168));
+    assert_eq!(refused(&longer), (11, 40_264));
+    longer[5032] |= 1;
+    assert_eq!(refused(&longer), (10, 40_257));
+    assert_eq!(refused(&longer[..5032]), (1, 40_233));
 }

@@ -4,14 +4,14 @@ use super::*;
 use crate::compare::hex;
 use crate::draft;
 use crate::image::{read, Refusal};
-use crate::write::row::{row_of, Lent, CELLS};
+use crate::write::row::{row_of, Head, Lent, CELLS};
 use crate::write::writer::{image, write};
 use crate::write::{cases, stream};
 use std::collections::BTreeSet;
 
-/// Cells of S: transaction 1, the tasks 0 to 2, and where a task's times start.
+/// Cells of S: transaction 1, the tasks 0 to 2, and where a task's times start. Before the tasks are 5 + 63·5 cells.
 const SECOND_HEAD: usize = 10;
-const TASKS: [usize; 3] = [165, 179, 193];
+const TASKS: [usize; 3] = [320, 334, 348];
 const TIMES: usize = 6;
 
 fn written(cells: &[u32]) -> Result<Vec<u8>, (u32, u32)> {
@@ -32,7 +32,7 @@ fn the_last_image_of_document_01() {
     let mut cells = vec![0; CELLS];
     cells[..3].copy_from_slice(&[1, 10, 1]);
     cells[5..9].copy_from_slice(&[10, 1, 0, 1]);
-    cells[165..172].copy_from_slice(&[0, 0, 0, 10, 5, 0, 3]);
+    cells[TASKS[0]..][..7].copy_from_slice(&[0, 0, 0, 10, 5, 0, 3]);
     let bytes = [&[0x10, 0, 0, 0xA0, 0x40, 0, 2, 0x84, 0x20][..], &[0; 11], &[0x50, 0x28, 0, 0, 0x18]].concat();
     assert_eq!(written(&cells), Ok(bytes));
 }
@@ -48,14 +48,14 @@ fn s_has_62_bytes() {
 #[test]
 fn each_number_has_its_cell() {
     let cells = row_of(&s());
-    assert_eq!(CELLS, 1061);
+    assert_eq!(CELLS, 2112);
     assert_eq!(cells[..5], [1, 20, 2, 3, 0]);
     assert_eq!(cells[5..15], [20, 1, 0, 2, 0, 20, 1, 2, 1, 0]);
-    assert_eq!(cells[15..165], [0; 150]);
-    assert_eq!(cells[165..179], [0, 0, 0, 10, 9, 0, 2, 0, 0, 0, 0, 0, 0, 0]);
-    assert_eq!(cells[179..193], [4, 0, 0, 10, 8, 0, 3, 0, 0, 0, 0, 0, 0, 0]);
-    assert_eq!(cells[193..207], [0, 0, 0, 4, 1, 1, 2, 0, 0, 0, 0, 0, 0, 0]);
-    assert_eq!(cells[207..], [0; 1061 - 207]);
+    assert_eq!(cells[15..320], [0; 305]);
+    assert_eq!(cells[320..334], [0, 0, 0, 10, 9, 0, 2, 0, 0, 0, 0, 0, 0, 0]);
+    assert_eq!(cells[334..348], [4, 0, 0, 10, 8, 0, 3, 0, 0, 0, 0, 0, 0, 0]);
+    assert_eq!(cells[348..362], [0, 0, 0, 4, 1, 1, 2, 0, 0, 0, 0, 0, 0, 0]);
+    assert_eq!(cells[362..], [0; 2112 - 362]);
 }
 
 #[test]
@@ -97,10 +97,14 @@ fn the_readers_numbers_at_their_fields() {
     }
     assert_eq!(refused(&[(0, 16)]), (29, 0));
     assert_eq!(refused(&[(1, 0)]), (3, 4));
-    for count in [0, 33, 63] {
-        assert_eq!(refused(&[(2, count)]), (4, 28));
+    assert_eq!(refused(&[(2, 0)]), (4, 28));
+    // Up to 63 the count is good: transaction 2 has period 0.
+    for count in [3, 32, 33, 62, 63] {
+        assert_eq!(refused(&[(2, count)]), (5, 490));
     }
-    assert_eq!(refused(&[(2, 64)]), (29, 28));
+    for count in [64, 65, 66, 96, 127, 128, 1 << 31, u32::MAX] {
+        assert_eq!(refused(&[(2, count)]), (29, 28));
+    }
     for period in [0, 3, 40] {
         assert_eq!(refused(&[(SECOND_HEAD, period)]), (5, 327));
     }
@@ -117,16 +121,27 @@ fn the_readers_numbers_at_their_fields() {
 }
 
 #[test]
-fn the_tasks_in_all_count_at_the_field_that_passes_64() {
+fn the_tasks_in_all_count_at_the_field_that_passes_128() {
     let sixteen = transaction(20, vec![task(0, &[1], 1); 16]);
-    let mut cells = row_of(&Table { frame: 20, transactions: vec![sixteen; 4] });
-    // 34 + 4·33 + 64·130 bits.
-    assert_eq!(written(&cells).map(|bytes| bytes.len()), Ok(8486usize.div_ceil(8)));
-    cells[2] = 5;
-    cells[25..29].copy_from_slice(&[20, 1, 0, 1]);
-    assert_eq!(written(&cells), Err((7, 8486 + 28)));
-    cells[28] = 32;
-    assert_eq!(written(&cells), Err((29, 8486 + 28)));
+    let mut cells = row_of(&Table { frame: 20, transactions: vec![sixteen; 8] });
+    // 34 + 8·33 + 128·130 bits.
+    assert_eq!(written(&cells).map(|bytes| bytes.len()), Ok(16_938usize.div_ceil(8)));
+    cells[45..49].copy_from_slice(&[20, 1, 0, 1]);
+    // The last transaction, or one before it.
+    for transactions in [9, 10, 63] {
+        cells[2] = transactions;
+        cells[48] = 1;
+        assert_eq!(written(&cells), Err((7, 16_938 + 28)));
+        cells[48] = 32;
+        assert_eq!(written(&cells), Err((29, 16_938 + 28)));
+    }
+    // 127 tasks in eight transactions, and one or two in the ninth: the body that was the last of the eighth comes there.
+    cells[2] = 9;
+    cells[43] = 15;
+    cells[48] = 1;
+    assert_eq!(written(&cells).map(|bytes| bytes.len()), Ok((16_938usize + 33).div_ceil(8)));
+    cells[48] = 2;
+    assert_eq!(written(&cells), Err((7, 16_938 - 130 + 28)));
 }
 
 /// Two modes in the first transaction: its tasks have 154 bits each.
@@ -193,12 +208,11 @@ fn a_refused_write_leaves_the_buffer_and_the_bytes_beyond_an_image_stay() {
 }
 
 #[test]
-fn the_longest_table_has_2521_bytes_and_no_padding() {
+fn the_longest_table_has_5033_bytes_of_which_the_last_holds_one_bit() {
     let most = Task { offset: 0xFFFFFF, deadline: 0x3FFFFFF, priority: 255, ..task(0, &[0xFFFFFF; 8], 1) };
-    let two = transaction(20, vec![most; 2]);
-    let table = Table { frame: 20, transactions: vec![two; 32] };
+    let table = longest(most);
     let bytes = written(&row_of(&table)).unwrap();
-    assert_eq!(bytes.len(), 2521);
+    assert_eq!((bytes.len(), bytes[5032]), (5033, 0x80));
     assert_eq!(read(&bytes), Ok(table));
 }
 
@@ -212,6 +226,28 @@ fn a_row_in_a_stream_comes_out_as_it_went_in() {
     }
     assert_eq!(stream::next(&mut input).unwrap(), None);
     assert!(stream::next(&mut &bytes[..100]).is_err());
+}
+
+/// Transactions and tasks at the limits and one beyond, and on both sides of the limits before request 4.
+#[test]
+fn random_rows_come_to_the_limits() {
+    let (mut counts, mut tasks, mut sums) = (BTreeSet::new(), BTreeSet::new(), BTreeSet::new());
+    for index in 0..2000 {
+        let lent = Lent::of(&cases::case(6, index).cells);
+        counts.insert(lent.count);
+        let so_far = |sum: &mut u32, head: &Head| {
+            *sum = sum.saturating_add(head.count);
+            Some(*sum)
+        };
+        match image(&lent) {
+            Ok(bytes) => _ = tasks.insert(read(&bytes).expect("what is written is good").numbered().len()),
+            Err(Refusal { number: 7, .. }) => sums.extend(lent.heads.iter().scan(0, so_far).find(|&sum| sum > 128)),
+            Err(_) => (),
+        }
+    }
+    assert!(counts.is_superset(&[0, 32, 33, 62, 63, 64, 65, 1 << 31].into()), "{counts:?}");
+    assert!(tasks.is_superset(&[64, 65, 127, 128].into()), "{tasks:?}");
+    assert!(sums.is_superset(&[129, 130].into()), "{sums:?}");
 }
 
 /// What is written is what the reader takes for the same table; and every refusal of the writer is met.

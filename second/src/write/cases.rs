@@ -3,7 +3,7 @@
 
 use crate::draft::{self, Kind};
 use crate::generate::damage::refused_number;
-use crate::generate::tables;
+use crate::generate::tables::{self, FORMER_TRANSACTIONS};
 use crate::random::Random;
 use crate::table::{Table, Transaction};
 use crate::write::row::{fields, row_of, CELLS};
@@ -100,7 +100,7 @@ fn length(random: &mut Random, needed: usize) -> usize {
 /// Numbers that are at hand where something may go wrong.
 fn any(random: &mut Random) -> u32 {
     let some = random.next() as u32;
-    random.pick(&[0, 1, 2, 64, 1 << 24, 1 << 31, u32::MAX, some, some, some])
+    random.pick(&[0, 1, 2, 63, 64, 128, 1 << 24, 1 << 31, u32::MAX, some, some, some])
 }
 
 /// Cells that no table was put into: any numbers, or small ones in a row that begins well.
@@ -127,12 +127,8 @@ fn spoil(random: &mut Random, cells: &mut [u32], fields: &[(Kind, usize)], fault
         }
         Fault::AnyEdition => cells[0] = random.within(0, 17) as u32,
         Fault::OtherCount(kind) => {
-            let most = match kind {
-                Kind::TransactionCount => Table::TRANSACTIONS,
-                Kind::ModeCount => Transaction::MODES,
-                _ => Transaction::TASKS,
-            };
-            cells[cell_of(random, fields, kind)] = random.within(1, most as i64) as u32;
+            let cell = cell_of(random, fields, kind);
+            cells[cell] = count(random, kind) as u32;
         }
         Fault::NoTime => {
             clear_times(random, cells, fields);
@@ -145,6 +141,20 @@ fn spoil(random: &mut Random, cells: &mut [u32], fields: &[(Kind, usize)], fault
             let from = random.below(CELLS);
             cells[from..].iter_mut().for_each(|cell| *cell = any(random));
         }
+    }
+}
+
+/// A count within its range; of the transactions mostly one at the limit or at the former one.
+fn count(random: &mut Random, kind: Kind) -> usize {
+    let most = match kind {
+        Kind::TransactionCount => Table::TRANSACTIONS,
+        Kind::ModeCount => Transaction::MODES,
+        _ => Transaction::TASKS,
+    };
+    let some = random.within(1, most as i64) as usize;
+    match kind {
+        Kind::TransactionCount => random.pick(&[some, FORMER_TRANSACTIONS, FORMER_TRANSACTIONS + 1, most - 1, most]),
+        _ => some,
     }
 }
 
@@ -174,14 +184,17 @@ fn clear_times(random: &mut Random, cells: &mut [u32], fields: &[(Kind, usize)])
     times
 }
 
-/// A table of 64 tasks that has room for one more transaction.
+/// A table of as many tasks as there may be that has room for one more transaction.
 fn crowded(random: &mut Random, table: &Table) -> Table {
     let mut crowded = Table { frame: table.frame, transactions: Vec::new() };
     let mut left = Table::TASKS;
+    let most = random.pick(&[3, Transaction::TASKS]);
     while left > 0 {
         let mut some = table.transactions[random.below(table.transactions.len())].clone();
-        let few = if crowded.transactions.len() < 20 { 1 } else { Transaction::TASKS as i64 };
-        let count = random.within(few, Transaction::TASKS as i64) as usize;
+        // The rest has room in the transactions that are left.
+        let others = Table::TRANSACTIONS - 2 - crowded.transactions.len();
+        let few = left.saturating_sub(others * most).max(1);
+        let count = random.within(few as i64, most as i64) as usize;
         some.tasks = vec![some.tasks[0].clone(); count.min(left)];
         left -= some.tasks.len();
         crowded.transactions.push(some);
@@ -189,17 +202,20 @@ fn crowded(random: &mut Random, table: &Table) -> Table {
     crowded
 }
 
-/// The last transaction of such a table says one task more, or another transaction begins behind it.
+/// The last transaction of such a table says one task more, or another transaction begins behind it, which need not be
+/// the last.
 fn one_too_many(random: &mut Random, cells: &mut [u32], table: &Table) {
     let (_, count) = *fields(table).iter().rfind(|field| field.0 == Kind::TaskCount).expect("a transaction");
     if random.percent(50) {
         cells[count] = table.transactions[table.transactions.len() - 1].tasks.len() as u32 + 1;
     } else {
-        cells[2] = table.transactions.len() as u32 + 1;
+        let transactions = table.transactions.len() + random.within(1, 2) as usize;
+        cells[2] = transactions.min(Table::TRANSACTIONS) as u32;
         let next = count + 2;
         cells[next] = table.frame as u32;
         cells[next + 1] = 1;
-        cells[next + 3] = random.within(1, Transaction::TASKS as i64) as u32;
+        let some = random.within(1, Transaction::TASKS as i64) as u32;
+        cells[next + 3] = random.pick(&[1, some]);
     }
 }
 
