@@ -1,5 +1,5 @@
 //! The samples and the stored cases: what they list, and that their first three cells are those of document 01, as they were
-//! before document 02's second request gave a task three more.
+//! before document 02's second request gave a task three more, and its fourth raised the limits.
 
 use std::fs::{read_dir, read_to_string, File};
 use std::path::{Path, PathBuf};
@@ -36,29 +36,44 @@ fn every_sample_lists_as_expected() {
     }
 }
 
-/// The samples that came with the request.
-const NEW: [&str; 3] = ["fifth-job", "pushed", "ties"];
+#[test]
+fn the_stored_cases_are_answered_as_stored() {
+    let file = |name: &str| top().join(format!("crates/many/{name}"));
+    assert_eq!(digest(&printed("answer", &file("stdin"))), digest(&read_to_string(file("stdout")).unwrap()));
+}
 
-/// The digests are those of the texts before the request: all listings in order of their names, and the stored lines.
+/// The samples that came with the second request.
+const SECOND: [&str; 3] = ["fifth-job", "pushed", "ties"];
+/// And those that came with the fourth, or were made anew for it.
+const FOURTH: [&str; 5] = ["cockpit", "longest", "most-tasks", "most-transactions", "refused-07-tasks-in-all"];
+
+/// Cases that were stored before the fourth request, and how many tasks a table had at most.
+const STORED: usize = 3000;
+const TASKS: usize = 64;
+
+/// The digests are those of the texts before the second request: all listings in order of their names, and the stored lines
+/// of what was accepted.
 #[test]
 fn the_first_three_cells_are_what_they_were() {
     let mut listings = String::new();
-    for name in samples().iter().filter(|name| !NEW.contains(&name.as_str())) {
+    let is_new = |name: &&String| [&SECOND[..], &FOURTH].concat().contains(&name.as_str());
+    for name in samples().iter().filter(|name| !is_new(name)) {
         for line in read_to_string(top().join(format!("samples/{name}.expected"))).unwrap().lines() {
             listings += &line.split(' ').take(4).collect::<Vec<_>>().join(" ");
             listings.push('\n');
         }
     }
-    assert_eq!(digest(&listings), 0xD150_A065_15C1_FC64);
+    assert_eq!(digest(&listings), 0x4216_E878_3AC8_B78D);
 
     let mut lines = String::new();
-    for line in printed("answer", &top().join("crates/many/stdin")).lines() {
-        let (first, cells) = line.split_once(' ').expect("a word and numbers");
+    for line in printed("answer", &top().join("crates/many/stdin")).lines().take(STORED) {
+        let Some(cells) = line.strip_prefix("accepted ") else { continue };
         let cells: Vec<&str> = cells.split(' ').collect();
-        let given = if first == "accepted" { 6 } else { 2 };
-        let kept = cells.chunks(given).flat_map(|task| &task[..given.min(3)]);
-        lines += &kept.fold(String::from(first), |line, cell| line + " " + cell);
-        lines.push('\n');
+        if cells.len() <= 6 * TASKS {
+            let kept = cells.chunks(6).flat_map(|task| &task[..3]);
+            lines += &kept.fold(String::from("accepted"), |line, cell| line + " " + cell);
+            lines.push('\n');
+        }
     }
-    assert_eq!(digest(&lines), 0xDDD4_F8FA_5986_B873);
+    assert_eq!(digest(&lines), 0x77FA_0ED1_D38A_B99B);
 }
