@@ -106,11 +106,11 @@ uint64_t sumpcandle_read(const uint8_t *image, size_t length, uint32_t *cells);
 uint64_t sumpcandle_write(const uint32_t *cells, uint8_t *buffer, size_t length);
 
 /* The longest image, in bytes. */
-#define SUMPCANDLE_LONGEST 2521
+#define SUMPCANDLE_LONGEST 5033
 
-/* Bytes of stack to leave for a call, beside what a thread needs of its own. Not proved: bench/stack.c measured 32,112 over the
+/* Bytes of stack to leave for a call, beside what a thread needs of its own. Not proved: bench/stack.c measured 55,404 over the
    samples, and the gate fails where it measures more than this. */
-#define SUMPCANDLE_STACK 36864
+#define SUMPCANDLE_STACK 61440
 
 /* The cells of a task of sumpcandle_cells. */
 #define SUMPCANDLE_RESULT_CELLS 6
@@ -163,11 +163,13 @@ enum {
    sumpcandle_read fills them. sumpcandle_write does not look at them, nor at spare cells, times beyond the mode count,
    transactions and tasks beyond the counts. Leave 0 in spare cells: a later version may use them.
 
-   Later versions may raise SUMPCANDLE_TRANSACTIONS and SUMPCANDLE_TASKS, and with them SUMPCANDLE_TASKS_START,
-   SUMPCANDLE_TABLE_CELLS and SUMPCANDLE_LONGEST. How many cells a group has and the place of each field in its group stay. So
-   a host that uses these names needs only to be compiled again. */
-#define SUMPCANDLE_TRANSACTIONS 32
-#define SUMPCANDLE_TASKS 64
+   A new version may raise SUMPCANDLE_TRANSACTIONS and SUMPCANDLE_TASKS, and with them SUMPCANDLE_TASKS_START,
+   SUMPCANDLE_TABLE_CELLS, SUMPCANDLE_LONGEST and SUMPCANDLE_STACK. How many cells a group has and the place of each field in its
+   group stay. So a host that uses these names needs only to be compiled again. But that it must be, with the header of its archive:
+   sumpcandle_read writes as many cells as the archive has. A host with small stacks must look at SUMPCANDLE_STACK, and one that
+   keeps tables must keep images, not cells. */
+#define SUMPCANDLE_TRANSACTIONS 63
+#define SUMPCANDLE_TASKS 128
 #define SUMPCANDLE_MODES 8
 
 /* How many cells each group has; where the transactions and the tasks start; and all of them. */
@@ -232,10 +234,10 @@ enum {
     SUMPCANDLE_CUT = 1,               /* the image ends inside a field */
     SUMPCANDLE_EDITION = 2,           /* edition is not 1 */
     SUMPCANDLE_FRAME = 3,             /* major frame 0 */
-    SUMPCANDLE_TRANSACTION_COUNT = 4, /* transaction count outside 1 to 32 */
+    SUMPCANDLE_TRANSACTION_COUNT = 4, /* transaction count outside 1 to 63, so 0: no more fits the field */
     SUMPCANDLE_PERIOD = 5,            /* period 0 or no divisor of the major frame */
     SUMPCANDLE_MODE_COUNT = 6,        /* mode count outside 1 to 8 */
-    SUMPCANDLE_TASK_COUNT = 7,        /* task count outside 1 to 16, or more than 64 tasks in all */
+    SUMPCANDLE_TASK_COUNT = 7,        /* task count outside 1 to 16, or more than 128 tasks in all */
     SUMPCANDLE_DEADLINE = 8,          /* deadline 0 */
     SUMPCANDLE_NO_TIME = 9,           /* a task with time 0 in every mode */
     SUMPCANDLE_PADDING = 10,          /* a padding bit is 1 */
