@@ -2,7 +2,9 @@
    (rows.c, cells.c), in one process.
 
    images [ROUNDS]    prints a line for each call and table: the best of the rounds (20) of each side in nanoseconds, and our
-                      time by C's. Status 1 if the sides answer otherwise */
+                      time by C's. Status 1 if the sides answer otherwise
+
+   It is compiled with the header of the archive. Tables above the limits of that header are left out, and named first. */
 
 #define _POSIX_C_SOURCE 200809L
 
@@ -12,11 +14,11 @@
 #include <time.h>
 
 #include "cells.h"
+#include "limits.h"
 #include "rows.h"
-#include "sumpcandle.h"
 
-/* The sides, ours first. Beside those that fill the cells of every task stands the clearing that ours does. */
-enum { READERS = 3, WRITERS = 2, FILLERS = 3, CLEARING = FILLERS, SIDES = 4 };
+/* The sides, ours first. Behind those that read and those that fill the cells of every task stands the clearing that ours does. */
+enum { READERS = 3, WRITERS = 2, FILLERS = 3, SIDES = 4 };
 
 typedef uint64_t reader(const uint8_t *image, size_t length, uint32_t *cells);
 typedef uint64_t writer(const uint32_t *cells, uint8_t *buffer, size_t length);
@@ -36,89 +38,94 @@ static uint32_t results[FILLERS][RESULTS];
 /* The cells that sumpcandle_cells works in, which are cleared for each call as the row is: Work::CELLS of
    crates/answers/src/layout.rt, summand by summand. */
 enum {
-    TASKS_IN_TRANSACTION = 16,
-    CANDIDATES = SUMPCANDLE_TASKS * TASKS_IN_TRANSACTION,
-    SETTINGS = SUMPCANDLE_TASKS * SUMPCANDLE_MODES,
-    MODE_WEIGHTS = SUMPCANDLE_TRANSACTIONS * SUMPCANDLE_MODES,
+    CANDIDATES = TASKS * TASKS_IN_TRANSACTION,
+    SETTINGS = TASKS * MODES,
+    MODE_WEIGHTS = TRANSACTIONS * MODES,
     WORK_CELLS = SUMPCANDLE_TABLE_CELLS + 2 * CANDIDATES + SETTINGS + MODE_WEIGHTS + 2 * SETTINGS + (SETTINGS + 1) +
-                 (SUMPCANDLE_TRANSACTIONS + 1)
+                 (TRANSACTIONS + 1)
 };
 
-/* A table in cells, how many calls are timed together, its image, and what reading that answers. */
+/* A table. It is left out where it has more transactions or tasks than the header allows. */
 struct table {
     const char *name;
-    long calls;
+    uint32_t transactions, tasks, modes;
+    void (*make)(struct table *table); /* its cells; NULL where the image is that of the table before and a byte more */
+    long calls;                        /* of reading and of writing that are timed together */
+    long fills;                        /* of filling the cells of every task; 0 where that is not timed */
     uint32_t cells[SUMPCANDLE_TABLE_CELLS];
     uint8_t image[SUMPCANDLE_LONGEST + 1];
     size_t length;
-    uint64_t answer;
+    uint64_t answer; /* to reading the image */
 };
 
-/* The cells of a header, of a transaction and of a task, which has the one time in each of its modes. */
-static void header(struct table *table, uint32_t frame, uint32_t transactions, uint32_t tasks) {
+/* The cells of a header, of a transaction and of a task, which has the one time in each mode of the table. */
+static void header(struct table *table, uint32_t frame) {
     table->cells[SUMPCANDLE_EDITION_CELL] = 1;
     table->cells[SUMPCANDLE_FRAME_CELL] = frame;
-    table->cells[SUMPCANDLE_TRANSACTION_COUNT_CELL] = transactions;
-    table->cells[SUMPCANDLE_TASKS_IN_ALL_CELL] = tasks;
+    table->cells[SUMPCANDLE_TRANSACTION_COUNT_CELL] = table->transactions;
+    table->cells[SUMPCANDLE_TASKS_IN_ALL_CELL] = table->tasks;
 }
 
-static void head(struct table *table, uint32_t v, uint32_t period, uint32_t modes, uint32_t first, uint32_t tasks) {
+static void head(struct table *table, uint32_t v, uint32_t period, uint32_t first, uint32_t tasks) {
     uint32_t *cells = &table->cells[sumpcandle_transaction_cell(v)];
     cells[SUMPCANDLE_PERIOD_CELL] = period;
-    cells[SUMPCANDLE_MODE_COUNT_CELL] = modes;
+    cells[SUMPCANDLE_MODE_COUNT_CELL] = table->modes;
     cells[SUMPCANDLE_FIRST_TASK_CELL] = first;
     cells[SUMPCANDLE_TASK_COUNT_CELL] = tasks;
 }
 
 static void task(struct table *table, uint32_t k, uint32_t v, uint32_t offset, uint32_t deadline, uint32_t priority,
-                 uint32_t modes, uint32_t time) {
+                 uint32_t time) {
     uint32_t *cells = &table->cells[sumpcandle_task_cell(k)];
     cells[SUMPCANDLE_OFFSET_CELL] = offset;
     cells[SUMPCANDLE_DEADLINE_CELL] = deadline;
     cells[SUMPCANDLE_PRIORITY_CELL] = priority;
     cells[SUMPCANDLE_OWNER_CELL] = v;
-    for (uint32_t mode = 0; mode < modes; mode++) {
+    for (uint32_t mode = 0; mode < table->modes; mode++) {
         cells[SUMPCANDLE_TIMES_CELL + mode] = time;
     }
 }
 
 /* Sample S of document 01. */
 static void sample(struct table *table) {
-    header(table, 20, 2, 3);
-    head(table, 0, 20, 1, 0, 2);
-    head(table, 1, 20, 1, 2, 1);
-    task(table, 0, 0, 0, 10, 9, 1, 2);
-    task(table, 1, 0, 4, 10, 8, 1, 3);
-    task(table, 2, 1, 0, 4, 1, 1, 2);
+    header(table, 20);
+    head(table, 0, 20, 0, 2);
+    head(table, 1, 20, 2, 1);
+    task(table, 0, 0, 0, 10, 9, 2);
+    task(table, 1, 0, 4, 10, 8, 3);
+    task(table, 2, 1, 0, 4, 1, 2);
 }
 
-/* 10 transactions of 3 tasks in one mode: about as many tasks as the flight computer of the samples has. */
+/* Transactions of 3 tasks. */
 static void middle(struct table *table) {
-    header(table, 40000, 10, 30);
-    for (uint32_t v = 0; v < 10; v++) {
-        head(table, v, 20000, 1, 3 * v, 3);
+    header(table, 40000);
+    for (uint32_t v = 0; v < table->transactions; v++) {
+        head(table, v, 20000, 3 * v, 3);
         for (uint32_t k = 3 * v; k < 3 * v + 3; k++) {
-            task(table, k, v, 500 * k, 20000, 200 - k, 1, 100 + k);
+            task(table, k, v, 500 * k, 20000, 200 - k, 100 + k);
         }
     }
 }
 
-/* As many transactions as there may be, of 2 tasks in as many modes as there may be: the longest image. */
-static void longest(struct table *table) {
-    header(table, 40000, SUMPCANDLE_TRANSACTIONS, 2 * SUMPCANDLE_TRANSACTIONS);
-    for (uint32_t v = 0; v < SUMPCANDLE_TRANSACTIONS; v++) {
-        uint32_t period = v % 2 == 0 ? 20000 : 40000;
-        head(table, v, period, SUMPCANDLE_MODES, 2 * v, 2);
-        task(table, 2 * v, v, 17 * v, period, 255 - v, SUMPCANDLE_MODES, 300 + v);
-        task(table, 2 * v + 1, v, 9000 + v, period, 100 + v, SUMPCANDLE_MODES, 200 + v);
+/* Transactions of as many tasks each, but for the last ones, which share what is left over. */
+static void wide(struct table *table) {
+    uint32_t k = 0;
+    header(table, 40000);
+    for (uint32_t v = 0; v < table->transactions; v++) {
+        uint32_t period = v % 2 == 0 ? 20000 : 40000, count = (table->tasks + v) / table->transactions;
+        head(table, v, period, k, count);
+        task(table, k++, v, 17 * v, period, 255 - v, 300 + v);
+        for (uint32_t i = 1; i < count; i++) {
+            task(table, k++, v, 9000 * i + v, period, 100 + v, 200 + v);
+        }
     }
 }
 
-/* The longest image and a byte 00 more, for which it is refused when all before it was read. */
-static void refuse(struct table *table, const struct table *longest) {
-    memcpy(table->image, longest->image, longest->length);
-    table->length = longest->length + 1;
-    table->answer = (uint64_t)SUMPCANDLE_BYTES_FOLLOW << 32 | 8 * longest->length;
+/* An image and a byte 00 more, for which it is refused when all before it was read. */
+static void refuse(struct table *table, const struct table *good) {
+    memcpy(table->image, good->image, good->length);
+    table->length = good->length + 1;
+    table->answer = (uint64_t)SUMPCANDLE_BYTES_FOLLOW << 32 | 8 * good->length;
 }
 
 static int differs(const struct table *table, const char *what) {
@@ -190,9 +197,22 @@ static int fills_otherwise(const struct table *table) {
     return 0;
 }
 
+/* By memset, as in the archive. The compiler may not know that nobody reads what was cleared. */
+static void clear(uint32_t *cells, size_t count) {
+    memset(cells, 0, count * sizeof *cells);
+    __asm__ volatile("" : : "r"(cells) : "memory");
+}
+
+static uint32_t row[SUMPCANDLE_TABLE_CELLS], work[WORK_CELLS];
+
+/* A refused image has nothing cleared. */
 static void read_often(const struct table *table, int side) {
     for (long i = 0; i < table->calls; i++) {
-        readers[side](table->image, table->length, back[side]);
+        if (side < READERS) {
+            readers[side](table->image, table->length, back[side]);
+        } else if (table->answer == 0) {
+            clear(row, SUMPCANDLE_TABLE_CELLS);
+        }
     }
 }
 
@@ -202,43 +222,38 @@ static void write_often(const struct table *table, int side) {
     }
 }
 
-/* By memset, as in the archive. The compiler may not know that nobody reads what was cleared. */
-static void clear_rows(void) {
-    static uint32_t row[SUMPCANDLE_TABLE_CELLS], work[WORK_CELLS];
-    memset(row, 0, sizeof row);
-    memset(work, 0, sizeof work);
-    __asm__ volatile("" : : "r"(row), "r"(work) : "memory");
-}
-
 static void fill_often(const struct table *table, int side) {
-    for (long i = 0; i < table->calls; i++) {
-        if (side == CLEARING) {
-            clear_rows();
-        } else {
+    for (long i = 0; i < table->fills; i++) {
+        if (side < FILLERS) {
             fillers[side](table->image, table->length, BUDGET, results[side], RESULTS);
+        } else {
+            clear(row, SUMPCANDLE_TABLE_CELLS);
+            clear(work, WORK_CELLS);
         }
     }
 }
 
-/* Nanoseconds a call. */
+/* Nanoseconds for all of the calls. */
 static double taken(void (*often)(const struct table *, int), const struct table *table, int side) {
     struct timespec from, to;
     clock_gettime(CLOCK_MONOTONIC, &from);
     often(table, side);
     clock_gettime(CLOCK_MONOTONIC, &to);
-    return (1e9 * (double)(to.tv_sec - from.tv_sec) + (double)(to.tv_nsec - from.tv_nsec)) / (double)table->calls;
+    return 1e9 * (double)(to.tv_sec - from.tv_sec) + (double)(to.tv_nsec - from.tv_nsec);
 }
 
-/* The best round of each side. A round takes the sides in turn, so that they share what else the machine does. */
+/* The best round of each side, in nanoseconds a call. A round takes the sides in turn, so that they share what else the machine
+   does. */
 struct best {
     double of[SIDES];
 };
 
-static struct best timed(void (*often)(const struct table *, int), const struct table *table, int sides, long rounds) {
+static struct best timed(void (*often)(const struct table *, int), const struct table *table, long calls, int sides,
+                         long rounds) {
     struct best best = {{0}};
     for (long round = 0; round < rounds; round++) {
         for (int side = 0; side < sides; side++) {
-            double now = taken(often, table, side);
+            double now = taken(often, table, side) / (double)calls;
             if (round == 0 || now < best.of[side]) best.of[side] = now;
         }
     }
@@ -252,63 +267,89 @@ static void start_line(const char *call, const struct table *table, double ours)
 }
 
 static void print_read(const struct table *table, long rounds) {
-    struct best best = timed(read_often, table, READERS, rounds);
+    struct best best = timed(read_often, table, table->calls, READERS + 1, rounds);
     start_line("read", table, best.of[0]);
-    printf("%11.0f%12.2f%11.0f%12.2f\n", best.of[1], best.of[0] / best.of[1], best.of[2], best.of[0] / best.of[2]);
+    printf("%11.0f%12.2f%11.0f%12.2f%11.0f\n", best.of[1], best.of[0] / best.of[1], best.of[2], best.of[0] / best.of[2],
+           best.of[READERS]);
 }
 
 static void print_write(const struct table *table, long rounds) {
-    struct best best = timed(write_often, table, WRITERS, rounds);
+    struct best best = timed(write_often, table, table->calls, WRITERS, rounds);
     start_line("write", table, best.of[0]);
     printf("%11.0f%12.2f\n", best.of[1], best.of[0] / best.of[1]);
 }
 
 static void print_cells(const struct table *table, long rounds) {
-    struct best best = timed(fill_often, table, CLEARING + 1, rounds);
-    double rest = best.of[0] - best.of[CLEARING];
+    struct best best = timed(fill_often, table, table->fills, FILLERS + 1, rounds);
+    double rest = best.of[0] - best.of[FILLERS];
     start_line("cells", table, best.of[0]);
-    printf("%11.0f%12.0f%11.0f%12.2f%11.0f%12.2f\n", best.of[CLEARING], rest, best.of[1], rest / best.of[1], best.of[2],
+    printf("%11.0f%12.0f%11.0f%12.2f%11.0f%12.2f\n", best.of[FILLERS], rest, best.of[1], rest / best.of[1], best.of[2],
            rest / best.of[2]);
 }
 
 static void start_lines(const char *columns) { printf("%-6s%-9s%6s%11s%s\n", "call", "table", "bytes", "ours", columns); }
 
-enum { LONGEST, REFUSED, MIDDLE, S, TABLES };
+/* Their sizes are not the header's limits: a table is the same beside every archive. */
+static struct table tables[] = {
+    {.name = "longest", .transactions = 63, .tasks = 128, .modes = 8, .make = wide, .calls = 100},
+    {.name = "too-long", .transactions = 63, .tasks = 128, .modes = 8, .calls = 100},
+    {.name = "32x2x8", .transactions = 32, .tasks = 64, .modes = 8, .make = wide, .calls = 200},
+    {.name = "refused", .transactions = 32, .tasks = 64, .modes = 8, .calls = 200},
+    {.name = "32x2x1", .transactions = 32, .tasks = 64, .modes = 1, .make = wide, .calls = 200, .fills = 20},
+    {.name = "middle", .transactions = 10, .tasks = 30, .modes = 1, .make = middle, .calls = 500, .fills = 100},
+    {.name = "s", .transactions = 2, .tasks = 3, .modes = 1, .make = sample, .calls = 1000, .fills = 1000},
+};
 
-/* Fills the tables, and tries each side on all of them. */
-static int is_otherwise(struct table *tables) {
-    longest(&tables[LONGEST]);
-    middle(&tables[MIDDLE]);
-    sample(&tables[S]);
-    for (int i = 0; i < TABLES; i++) {
-        if (i != REFUSED && writes_otherwise(&tables[i])) return 1;
+#define END (tables + sizeof tables / sizeof *tables)
+
+static int is_left_out(const struct table *table) {
+    return table->transactions > TRANSACTIONS || table->tasks > TASKS;
+}
+
+static void print_left_out(void) {
+    int any = 0;
+    for (const struct table *table = tables; table < END; table++) {
+        if (!is_left_out(table)) continue;
+        if (!any) printf("left out, above %d transactions or %d tasks:", TRANSACTIONS, TASKS);
+        printf(" %s", table->name);
+        any = 1;
     }
-    refuse(&tables[REFUSED], &tables[LONGEST]);
-    for (int i = 0; i < TABLES; i++) {
-        if (is_read_otherwise(&tables[i])) return 1;
+    if (any) puts("");
+}
+
+/* Makes the tables, and tries each side on all of them. */
+static int is_otherwise(void) {
+    for (struct table *table = tables; table < END; table++) {
+        if (is_left_out(table)) continue;
+        if (table->make == NULL) {
+            refuse(table, table - 1);
+        } else {
+            table->make(table);
+            if (writes_otherwise(table) || fills_otherwise(table)) return 1;
+        }
+        if (is_read_otherwise(table)) return 1;
     }
-    return fills_otherwise(&tables[S]);
+    return 0;
 }
 
 int main(int count, char **arguments) {
-    static struct table tables[TABLES] = {[LONGEST] = {.name = "longest", .calls = 200},
-                                          [REFUSED] = {.name = "refused", .calls = 200},
-                                          [MIDDLE] = {.name = "middle", .calls = 500},
-                                          [S] = {.name = "s", .calls = 1000}};
     long rounds = count == 2 ? strtol(arguments[1], NULL, 10) : 20;
     if (count > 2 || rounds < 1) {
         fputs("usage: images [ROUNDS]\n", stderr);
         return 3;
     }
-    if (is_otherwise(tables)) return 1;
-    start_lines("      plain  ours/plain      whole  ours/whole");
-    for (int i = 0; i < TABLES; i++) {
-        print_read(&tables[i], rounds);
+    if (is_otherwise()) return 1;
+    print_left_out();
+    start_lines("      plain  ours/plain      whole  ours/whole   clearing");
+    for (const struct table *table = tables; table < END; table++) {
+        if (!is_left_out(table)) print_read(table, rounds);
     }
-    for (int i = 0; i < TABLES; i++) {
-        if (i != REFUSED) print_write(&tables[i], rounds);
+    for (const struct table *table = tables; table < END; table++) {
+        if (!is_left_out(table) && table->make != NULL) print_write(table, rounds);
     }
     start_lines("   clearing        rest       fast   rest/fast      whole  rest/whole");
-    print_cells(&tables[S], rounds);
+    for (const struct table *table = tables; table < END; table++) {
+        if (!is_left_out(table) && table->fills > 0) print_cells(table, rounds);
+    }
     return 0;
 }

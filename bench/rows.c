@@ -6,11 +6,16 @@
 #include <string.h>
 
 #include "bits.h"
+#include "limits.h"
 
-enum { TRANSACTIONS = 32, TASKS = 64, TASKS_IN_TRANSACTION = 16, MODES = 8, LONGEST = 2521 };
-
-/* The row: five cells of the header, five of each transaction, fourteen of each task. */
-enum { HEADER = 5, HEAD = 5, BODY = 14, BODIES = HEADER + TRANSACTIONS * HEAD, CELLS = BODIES + TASKS * BODY };
+/* The row: the cells of the header, those of each transaction, those of each task. */
+enum {
+    HEADER = SUMPCANDLE_HEADER_CELLS,
+    HEAD = SUMPCANDLE_TRANSACTION_CELLS,
+    BODY = SUMPCANDLE_TASK_CELLS,
+    BODIES = SUMPCANDLE_TASKS_START,
+    CELLS = SUMPCANDLE_TABLE_CELLS
+};
 enum { EDITION, FRAME, COUNT, IN_ALL };
 enum { PERIOD, MODE_COUNT, FIRST, TASK_COUNT };
 enum { OFFSET, JITTER, BLOCKING, DEADLINE, PRIORITY, OWNER, TIMES };
@@ -98,7 +103,7 @@ uint64_t whole_read(const uint8_t *image, size_t length, uint32_t *cells) {
 
 /* Writing: the bytes so far, and the bits of the next one, which are the lowest of `held`. */
 struct image {
-    uint8_t bytes[LONGEST];
+    uint8_t bytes[SUMPCANDLE_LONGEST];
     size_t length;
     uint64_t held;
     unsigned count;

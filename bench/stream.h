@@ -6,7 +6,9 @@
 
 #include <stdint.h>
 
-enum { TRANSACTIONS = 32, TASKS = 64, TASKS_IN_TRANSACTION = 16, MODES = 8, HORIZON = 16777215 };
+#include "limits.h"
+
+enum { HORIZON = 16777215 };
 
 enum { BOUNDED = 0, LATE = 20, OVERLOAD = 21, PAST_HORIZON = 22, BUDGET_SPENT = 23 };
 
