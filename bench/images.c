@@ -35,8 +35,8 @@ static uint32_t back[READERS][SUMPCANDLE_TABLE_CELLS];
 static uint8_t written[WRITERS][SUMPCANDLE_LONGEST];
 static uint32_t results[FILLERS][RESULTS];
 
-/* The cells that sumpcandle_cells works in, which are cleared for each call as the row is: Work::CELLS of
-   crates/answers/src/layout.rt, summand by summand. */
+/* The cells that sumpcandle_cells works in, the table's row first, which are cleared for each call: Work::CELLS of
+   crates/answers/src/layout.rt, summand by summand. Up to request 4 the row stood apart once more (ROW_APART). */
 enum {
     CANDIDATES = TASKS * TASKS_IN_TRANSACTION,
     SETTINGS = TASKS * MODES,
@@ -227,7 +227,9 @@ static void fill_often(const struct table *table, int side) {
         if (side < FILLERS) {
             fillers[side](table->image, table->length, BUDGET, results[side], RESULTS);
         } else {
+#ifdef ROW_APART
             clear(row, SUMPCANDLE_TABLE_CELLS);
+#endif
             clear(work, WORK_CELLS);
         }
     }

@@ -108,9 +108,9 @@ uint64_t sumpcandle_write(const uint32_t *cells, uint8_t *buffer, size_t length)
 /* The longest image, in bytes. */
 #define SUMPCANDLE_LONGEST 5033
 
-/* Bytes of stack to leave for a call, beside what a thread needs of its own. Not proved: bench/stack.c measured 55,404 over the
+/* Bytes of stack to leave for a call, beside what a thread needs of its own. Not proved: bench/stack.c measured 44,552 over the
    samples, and the gate fails where it measures more than this. */
-#define SUMPCANDLE_STACK 61440
+#define SUMPCANDLE_STACK 49152
 
 /* The cells of a task of sumpcandle_cells. */
 #define SUMPCANDLE_RESULT_CELLS 6

@@ -57,6 +57,10 @@ same-cell {n} {old} {row} same p h e =
 
 -- ---- a table's row
 
+-- stores behind it leave it, and its table
+pub same-row : {old row : List ℕ} → RowOfTable old → SameTo rowCells old row → RowOfTable row × (tableOf row ≡ tableOf old)
+same-row {old} {row} x same = (longer x (same .front), same-held old row (x .kept) (same .front))
+
 -- all its cells are there
 pub row-long : {row : List ℕ} → RowOfTable row → rowCells ≤ length row
 row-long {row} x =

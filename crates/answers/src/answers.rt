@@ -15,7 +15,7 @@ use told::TaskAnswer;
 use told::TaskCells;
 ghost use mathlib.Core.Path.{_≡_};
 ghost use Prim.Native.Nat.{_<_, _≤_, _^_};
-ghost use Rattle.row.specs.Row.{tableOf, RowOfTable};
+ghost use Rattle.row.specs.Row.{tableOf};
 ghost use Rattle.table.specs.Table.{IsTask, transactions};
 ghost use Rattle.table.specs.Number.{before, inAll};
 ghost use Rattle.periods.specs.Charge.{imposed};
@@ -77,41 +77,28 @@ pub(crate) fn answer(work: &[u32; Work::CELLS], s: Subject, budget: u32) -> Task
 }
 
 // The task with number k, with work cells of the table that may be another task's, and then are its own.
-pub(crate) fn subject(
-    table: &[u32; Table::CELLS],
-    work: &mut [u32; Work::CELLS],
-    k: usize,
-) -> Subject
-    requires { ⌜ RowOfTable (now table) ⌝ }
+pub(crate) fn subject(work: &mut [u32; Work::CELLS], k: usize) -> Subject
     requires { ⌜ Lent (now work) ⌝ }
-    requires { ⌜ tableOf (now work) ≡ tableOf (now table) ⌝ }
-    requires { ⌜ k < inAll (tableOf (now table)) ⌝ }
-    ensures { λ r. ⌜ IsSubjectAt (tableOf (now (table .entry))) k r ⌝ }
+    requires { ⌜ k < inAll (tableOf (now work)) ⌝ }
+    ensures { λ r. ⌜ IsSubjectAt (tableOf (now (work .entry))) k r ⌝ }
     ensures { λ _. ⌜ Lent (now (work .exit)) ⌝ }
-    ensures { λ _. ⌜ tableOf (now (work .exit)) ≡ tableOf (now (table .entry)) ⌝ }
+    ensures { λ _. ⌜ tableOf (now (work .exit)) ≡ tableOf (now (work .entry)) ⌝ }
     ensures { λ r. ⌜ IsSubject (now (work .exit)) r ⌝ }
 {
-    let s = work::task(table, k);
+    let s = work::task(&*work, k);
     work::weigh(work, s);
     links::link(work, s);
     s
 }
 
 // The cells of the task with number k.
-pub(crate) fn task_cells(
-    table: &[u32; Table::CELLS],
-    work: &mut [u32; Work::CELLS],
-    k: usize,
-    budget: u32,
-) -> TaskCells
-    requires { ⌜ RowOfTable (now table) ⌝ }
+pub(crate) fn task_cells(work: &mut [u32; Work::CELLS], k: usize, budget: u32) -> TaskCells
     requires { ⌜ Lent (now work) ⌝ }
-    requires { ⌜ tableOf (now work) ≡ tableOf (now table) ⌝ }
-    requires { ⌜ k < inAll (tableOf (now table)) ⌝ }
-    ensures { λ r. ⌜ OwedAt (tableOf (now (table .entry))) k budget (cellsMeant r) ⌝ }
+    requires { ⌜ k < inAll (tableOf (now work)) ⌝ }
+    ensures { λ r. ⌜ OwedAt (tableOf (now (work .entry))) k budget (cellsMeant r) ⌝ }
     ensures { λ _. ⌜ Lent (now (work .exit)) ⌝ }
-    ensures { λ _. ⌜ tableOf (now (work .exit)) ≡ tableOf (now (table .entry)) ⌝ }
+    ensures { λ _. ⌜ tableOf (now (work .exit)) ≡ tableOf (now (work .entry)) ⌝ }
 {
-    let s = subject(table, work, k);
-    answer(&*work, s, budget).cells(Table::deadline(table, k))
+    let s = subject(work, k);
+    answer(&*work, s, budget).cells(Table::deadline(&*work, k))
 }

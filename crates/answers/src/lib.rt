@@ -1,15 +1,17 @@
 // How late can each task finish, and who pushed it? The cells of every task of an image, the C host's number for one task, what a
 // bound is made of, and what a transaction charges. The layers below speak to each other inside this crate, and learn of an image only
-// what `image::read` promises.
+// what `image::read_in_front` promises: its table's row is read right into the front of the work cells.
 use layout::Work;
 use parts::Made;
 use parts::Part;
 use refusals::Answer;
 use refusals::Refusal;
-use row::Table;
 use told::Filled;
 use told::TaskCells;
+ghost use mathlib.Core.Path.{_≡_};
+ghost use lib.ListN.{length};
 ghost use Rattle.row.specs.Row.{tableOf, RowOfTable};
+ghost use Rattle.answers.specs.Work.{workCells};
 ghost use Rattle.parts.specs.Parts.{Makes, ChargesOne};
 ghost use Rattle.told.specs.Told.{Fills, FillsFrom, Responds, RespondsFrom};
 
@@ -26,18 +28,18 @@ mod walk;
 mod who;
 mod work;
 
-// The cells of every task, or nothing where they do not fit.
-fn fill(table: &[u32; Table::CELLS], budget: u32, cells: &mut [u32]) -> Filled
-    requires { ⌜ RowOfTable (now table) ⌝ }
-    ensures { λ r. ⌜ FillsFrom (tableOf (now (table .entry))) budget (now (cells .entry)) (now (cells .exit)) r ⌝ }
+// The cells of every task of the table that the work cells begin with, or nothing where they do not fit.
+fn fill(work: &mut [u32; Work::CELLS], budget: u32, cells: &mut [u32]) -> Filled
+    requires { ⌜ RowOfTable (now work) ⌝ }
+    requires { ⌜ length (now work) ≡ workCells ⌝ }
+    ensures { λ r. ⌜ FillsFrom (tableOf (now (work .entry))) budget (now (cells .entry)) (now (cells .exit)) r ⌝ }
 {
-    let count = reads::index(Table::in_all(table));
+    let count = reads::in_all(&*work);
     if TaskCells::have_room(cells.len(), count) {
-        let mut working = [0u32; Work::CELLS];
-        work::prepare(table, &mut working);
+        work::prepare(work);
         let mut k: usize = 0;
         while k < count {
-            answers::task_cells(table, &mut working, k, budget).put(cells, k);
+            answers::task_cells(work, k, budget).put(cells, k);
             k += 1;
         }
         return Filled::Done(count);
@@ -49,23 +51,22 @@ fn fill(table: &[u32; Table::CELLS], budget: u32, cells: &mut [u32]) -> Filled
 pub fn cells(image: &[u8], budget: u32, cells: &mut [u32]) -> Filled
     ensures { λ r. ⌜ Fills (now (image .entry)) budget (now (cells .entry)) (now (cells .exit)) r ⌝ }
 {
-    let reading = image::read(image);
-    let answer = reading.answer;
-    match answer {
+    let mut working = [0u32; Work::CELLS];
+    match image::read_in_front(image, &mut working) {
         Answer::Refused(refusal, at) => Filled::Refused(refusal, at),
-        Answer::Accepted => { fill(&reading.table.cells, budget, cells) }
+        Answer::Accepted => fill(&mut working, budget, cells),
     }
 }
 
-// The number for one task of a lent table.
-fn response_of(table: &[u32; Table::CELLS], task: usize, budget: u32) -> u64
-    requires { ⌜ RowOfTable (now table) ⌝ }
-    ensures { λ r. ⌜ RespondsFrom (tableOf (now (table .entry))) task budget r ⌝ }
+// The number for one task of that table.
+fn response_of(work: &mut [u32; Work::CELLS], task: usize, budget: u32) -> u64
+    requires { ⌜ RowOfTable (now work) ⌝ }
+    requires { ⌜ length (now work) ≡ workCells ⌝ }
+    ensures { λ r. ⌜ RespondsFrom (tableOf (now (work .entry))) task budget r ⌝ }
 {
-    if task < reads::index(Table::in_all(table)) {
-        let mut working = [0u32; Work::CELLS];
-        work::prepare(table, &mut working);
-        let c = answers::task_cells(table, &mut working, task, budget);
+    if task < reads::in_all(&*work) {
+        work::prepare(work);
+        let c = answers::task_cells(work, task, budget);
         return told::pair(c.code, c.bound);
     }
     told::pair(Refusal::NoTask.number(), 0)
@@ -75,11 +76,10 @@ fn response_of(table: &[u32; Table::CELLS], task: usize, budget: u32) -> u64
 pub fn response(image: &[u8], task: u32, budget: u32) -> u64
     ensures { λ r. ⌜ Responds (now (image .entry)) task budget r ⌝ }
 {
-    let reading = image::read(image);
-    let answer = reading.answer;
-    match answer {
+    let mut working = [0u32; Work::CELLS];
+    match image::read_in_front(image, &mut working) {
         Answer::Refused(refusal, at) => told::pair(refusal.number(), at as u32),
-        Answer::Accepted => { response_of(&reading.table.cells, reads::index(task), budget) }
+        Answer::Accepted => response_of(&mut working, reads::index(task), budget),
     }
 }
 
@@ -87,11 +87,10 @@ pub fn response(image: &[u8], task: u32, budget: u32) -> u64
 pub fn parts(image: &[u8], task: u32, budget: u32) -> Made
     ensures { λ r. ⌜ Makes (now (image .entry)) task budget r ⌝ }
 {
-    let reading = image::read(image);
-    let answer = reading.answer;
-    match answer {
+    let mut working = [0u32; Work::CELLS];
+    match image::read_in_front(image, &mut working) {
         Answer::Refused(refusal, at) => Made::Refused(refusal, at),
-        Answer::Accepted => { pushed::parts_from(&reading.table.cells, reads::index(task), budget) }
+        Answer::Accepted => pushed::parts_from(&mut working, reads::index(task), budget),
     }
 }
 
@@ -99,18 +98,15 @@ pub fn parts(image: &[u8], task: u32, budget: u32) -> Made
 pub fn charge(image: &[u8], task: u32, transaction: u32, whole: bool, t: u32) -> Part
     ensures { λ r. ⌜ ChargesOne (now (image .entry)) task transaction whole t r ⌝ }
 {
-    let reading = image::read(image);
-    let answer = reading.answer;
-    match answer {
+    let mut working = [0u32; Work::CELLS];
+    match image::read_in_front(image, &mut working) {
         Answer::Refused(refusal, at) => Part::Refused(refusal, at),
-        Answer::Accepted => {
-            pushed::charge_from(
-                &reading.table.cells,
-                reads::index(task),
-                reads::index(transaction),
-                whole,
-                t,
-            )
-        }
+        Answer::Accepted => pushed::charge_from(
+            &mut working,
+            reads::index(task),
+            reads::index(transaction),
+            whole,
+            t,
+        ),
     }
 }

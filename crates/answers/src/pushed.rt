@@ -17,10 +17,10 @@ use parts::Made;
 use parts::Part;
 use parts::Parts;
 use refusals::Refusal;
-use row::Table;
 use told::TaskAnswer;
 ghost use mathlib.Core.Path.{_≡_};
 ghost use lib.Dec.{T};
+ghost use lib.ListN.{length};
 ghost use lib.IntN.{pos, _+ℤ_, _-ℤ_};
 ghost use lib.Signed.{mag, nonNeg};
 ghost use Prim.Native.Nat.{_<_, _^_};
@@ -34,7 +34,7 @@ ghost use Rattle.parts.specs.Parts.{partsMeant, OfTask, MadeFor, ChargedBy};
 ghost use Rattle.parts.specs.declared.Made.the-variants as made;
 ghost use Rattle.parts.specs.declared.Part.the-variants as part;
 ghost use Rattle.answers.specs.Turn.{sourceMeant};
-ghost use Rattle.answers.specs.Work.{Lent, IsSubject};
+ghost use Rattle.answers.specs.Work.{workCells, Lent, IsSubject};
 
 // The completion of the job that has a bound, found back from it: the bound is completion − arrival + offset.
 fn completion(bound: u32, offset: Ticks, arrives: Moment) -> Ticks
@@ -109,36 +109,36 @@ fn charged(work: &[u32; Work::CELLS], s: Subject, whole: bool, i: usize, t: u32)
     Part::NoTransaction
 }
 
-// What the bound of one task of a lent table is made of.
-pub(crate) fn parts_from(table: &[u32; Table::CELLS], task: usize, budget: u32) -> Made
-    requires { ⌜ RowOfTable (now table) ⌝ }
-    ensures { λ r. ⌜ OfTask made.Refused (MadeFor budget) task (tableOf (now (table .entry))) r ⌝ }
+// What the bound of one task of the table that the work cells begin with is made of.
+pub(crate) fn parts_from(work: &mut [u32; Work::CELLS], task: usize, budget: u32) -> Made
+    requires { ⌜ RowOfTable (now work) ⌝ }
+    requires { ⌜ length (now work) ≡ workCells ⌝ }
+    ensures { λ r. ⌜ OfTask made.Refused (MadeFor budget) task (tableOf (now (work .entry))) r ⌝ }
 {
-    if task < reads::index(Table::in_all(table)) {
-        let mut working = [0u32; Work::CELLS];
-        work::prepare(table, &mut working);
-        let s = answers::subject(table, &mut working, task);
-        return made(&working, s, budget);
+    if task < reads::in_all(&*work) {
+        work::prepare(work);
+        let s = answers::subject(work, task);
+        return made(&*work, s, budget);
     }
     Made::Refused(Refusal::NoTask, 0)
 }
 
-// What one transaction charges one task of a lent table.
+// What one transaction charges one task of that table.
 pub(crate) fn charge_from(
-    table: &[u32; Table::CELLS],
+    work: &mut [u32; Work::CELLS],
     task: usize,
     transaction: usize,
     whole: bool,
     t: u32,
 ) -> Part
-    requires { ⌜ RowOfTable (now table) ⌝ }
-    ensures { λ r. ⌜ OfTask part.Refused (ChargedBy (laterOf whole) transaction t) task (tableOf (now (table .entry))) r ⌝ }
+    requires { ⌜ RowOfTable (now work) ⌝ }
+    requires { ⌜ length (now work) ≡ workCells ⌝ }
+    ensures { λ r. ⌜ OfTask part.Refused (ChargedBy (laterOf whole) transaction t) task (tableOf (now (work .entry))) r ⌝ }
 {
-    if task < reads::index(Table::in_all(table)) {
-        let mut working = [0u32; Work::CELLS];
-        work::prepare(table, &mut working);
-        let s = answers::subject(table, &mut working, task);
-        return charged(&working, s, whole, transaction, t);
+    if task < reads::in_all(&*work) {
+        work::prepare(work);
+        let s = answers::subject(work, task);
+        return charged(&*work, s, whole, transaction, t);
     }
     Part::Refused(Refusal::NoTask, 0)
 }

@@ -1,6 +1,5 @@
-// Filling the work cells: the table's row with its phases and held-back jobs once for a table, and the weights with their
-// sums once for each task under analysis. What is read of the table comes from its own row at first, and then from the
-// work cells.
+// Filling the work cells, which begin with a table's row: its phases and held-back jobs once for a table, and the weights with
+// their sums once for each task under analysis.
 use super::charges::Subject;
 use super::layout::Work;
 use super::reads;
@@ -9,7 +8,7 @@ use row::Task;
 use row::Transaction;
 ghost use mathlib.Core.Path.{_≡_};
 ghost use Prim.Native.Nat.{_+_, _*_, _<_, _^_};
-ghost use lib.ListN.{length, take};
+ghost use lib.ListN.{length};
 ghost use Rattle.table.specs.Table.{IsTask, transactions, modes};
 ghost use Rattle.table.specs.Limits.{modesMost};
 ghost use Rattle.table.specs.Number.{before, inAll};
@@ -36,104 +35,83 @@ fn phase(period: u32, offset: u32, instant: u32) -> u32
 }
 
 // The task with number k.
-pub(crate) fn task(table: &[u32; Table::CELLS], k: usize) -> Subject
-    requires { ⌜ RowOfTable (now table) ⌝ }
-    requires { ⌜ k < inAll (tableOf (now table)) ⌝ }
-    ensures { λ r. ⌜ IsSubjectAt (tableOf (now (table .entry))) k r ⌝ }
+pub(crate) fn task(work: &[u32; Work::CELLS], k: usize) -> Subject
+    requires { ⌜ RowOfTable (now work) ⌝ }
+    requires { ⌜ k < inAll (tableOf (now work)) ⌝ }
+    ensures { λ r. ⌜ IsSubjectAt (tableOf (now (work .entry))) k r ⌝ }
 {
-    let u = reads::index(Table::owner(table, k));
-    let a = k - reads::index(Table::first(table, u));
+    let u = reads::index(Table::owner(work, k));
+    let a = k - reads::index(Table::first(work, u));
     Subject {
         u,
         a,
-        priority: Table::priority(table, k),
+        priority: Table::priority(work, k),
     }
 }
 
 // Phase of task j when candidate c sets the critical instant.
-fn phase_of(table: &[u32; Table::CELLS], i: usize, c: usize, j: usize) -> u32
-    requires { ⌜ RowOfTable (now table) ⌝ }
-    requires { ⌜ IsTask (tableOf (now table)) i c ⌝ }
-    requires { ⌜ IsTask (tableOf (now table)) i j ⌝ }
-    ensures { λ r. ⌜ r ≡ phaseOf (tableOf (now (table .entry))) i c j ⌝ }
+fn phase_of(work: &[u32; Work::CELLS], i: usize, c: usize, j: usize) -> u32
+    requires { ⌜ RowOfTable (now work) ⌝ }
+    requires { ⌜ IsTask (tableOf (now work)) i c ⌝ }
+    requires { ⌜ IsTask (tableOf (now work)) i j ⌝ }
+    ensures { λ r. ⌜ r ≡ phaseOf (tableOf (now (work .entry))) i c j ⌝ }
 {
-    let k = reads::number(table, i, c);
-    let offset = Table::offset(table, reads::number(table, i, j));
+    let k = reads::number(work, i, c);
+    let offset = Table::offset(work, reads::number(work, i, j));
     phase(
-        Table::period(table, i),
+        Table::period(work, i),
         offset,
-        Table::offset(table, k) + Table::jitter(table, k),
+        Table::offset(work, k) + Table::jitter(work, k),
     )
 }
 
 // Jobs of task j held back to the instant.
-fn held_of(table: &[u32; Table::CELLS], i: usize, c: usize, j: usize) -> u32
-    requires { ⌜ RowOfTable (now table) ⌝ }
-    requires { ⌜ IsTask (tableOf (now table)) i c ⌝ }
-    requires { ⌜ IsTask (tableOf (now table)) i j ⌝ }
-    ensures { λ r. ⌜ r ≡ heldOf (tableOf (now (table .entry))) i c j ⌝ }
+fn held_of(work: &[u32; Work::CELLS], i: usize, c: usize, j: usize) -> u32
+    requires { ⌜ RowOfTable (now work) ⌝ }
+    requires { ⌜ IsTask (tableOf (now work)) i c ⌝ }
+    requires { ⌜ IsTask (tableOf (now work)) i j ⌝ }
+    ensures { λ r. ⌜ r ≡ heldOf (tableOf (now (work .entry))) i c j ⌝ }
 {
-    let jitter = Table::jitter(table, reads::number(table, i, j));
-    (jitter + phase_of(table, i, c, j)) / Table::period(table, i)
-}
-
-fn copy(table: &[u32; Table::CELLS], work: &mut [u32; Work::CELLS])
-    requires { ⌜ RowOfTable (now table) ⌝ }
-    requires { ⌜ length (now work) ≡ workCells ⌝ }
-    ensures { λ _. ⌜ length (now (work .exit)) ≡ workCells ⌝ }
-    ensures { λ _. ⌜ take rowCells (now (work .exit)) ≡ take rowCells (now (table .entry)) ⌝ }
-{
-    let mut at: usize = 0;
-    while at < Table::CELLS {
-        work[at] = table[at];
-        at += 1;
-    }
+    let jitter = Table::jitter(work, reads::number(work, i, j));
+    (jitter + phase_of(work, i, c, j)) / Table::period(work, i)
 }
 
 // The phases, and the jobs held back, of candidate number k.
-fn put_phases(table: &[u32; Table::CELLS], work: &mut [u32; Work::CELLS], k: usize)
-    requires { ⌜ RowOfTable (now table) ⌝ }
+fn put_phases(work: &mut [u32; Work::CELLS], k: usize)
+    requires { ⌜ RowOfTable (now work) ⌝ }
     requires { ⌜ length (now work) ≡ workCells ⌝ }
-    requires { ⌜ k < inAll (tableOf (now table)) ⌝ }
-    requires { ⌜ Phased (tableOf (now table)) k (now work) ⌝ }
-    ensures { λ _. ⌜ Phased (tableOf (now (table .entry))) (k + 1) (now (work .exit)) ⌝ }
+    requires { ⌜ k < inAll (tableOf (now work)) ⌝ }
+    requires { ⌜ Phased (tableOf (now work)) k (now work) ⌝ }
+    ensures { λ _. ⌜ Phased (tableOf (now (work .entry))) (k + 1) (now (work .exit)) ⌝ }
     ensures { λ _. ⌜ SameTo rowCells (now (work .entry)) (now (work .exit)) ⌝ }
 {
-    let x = task(table, k);
+    let x = task(&*work, k);
     let i = x.u;
     let c = x.a;
-    let count = reads::index(Table::tasks(table, i));
+    let count = reads::tasks(&*work, i);
     let mut j: usize = 0;
     while j < count {
-        work[Work::PHASES + Transaction::TASKS * k + j] = phase_of(table, i, c, j);
-        work[Work::HELD + Transaction::TASKS * k + j] = held_of(table, i, c, j);
+        let phase = phase_of(&*work, i, c, j);
+        let held = held_of(&*work, i, c, j);
+        work[Work::PHASES + Transaction::TASKS * k + j] = phase;
+        work[Work::HELD + Transaction::TASKS * k + j] = held;
         j += 1;
     }
 }
 
-fn phases(table: &[u32; Table::CELLS], work: &mut [u32; Work::CELLS])
-    requires { ⌜ RowOfTable (now table) ⌝ }
-    requires { ⌜ length (now work) ≡ workCells ⌝ }
-    ensures { λ _. ⌜ Phased (tableOf (now (table .entry))) (inAll (tableOf (now (table .entry)))) (now (work .exit)) ⌝ }
-    ensures { λ _. ⌜ SameTo rowCells (now (work .entry)) (now (work .exit)) ⌝ }
-{
-    let count = reads::index(Table::in_all(table));
-    let mut k: usize = 0;
-    while k < count {
-        put_phases(table, work, k);
-        k += 1;
-    }
-}
-
-// The work cells of a table, once for all its tasks.
-pub(crate) fn prepare(table: &[u32; Table::CELLS], work: &mut [u32; Work::CELLS])
-    requires { ⌜ RowOfTable (now table) ⌝ }
+// The phases, and the jobs held back, behind a table's row: once for all its tasks.
+pub(crate) fn prepare(work: &mut [u32; Work::CELLS])
+    requires { ⌜ RowOfTable (now work) ⌝ }
     requires { ⌜ length (now work) ≡ workCells ⌝ }
     ensures { λ _. ⌜ Lent (now (work .exit)) ⌝ }
-    ensures { λ _. ⌜ tableOf (now (work .exit)) ≡ tableOf (now (table .entry)) ⌝ }
+    ensures { λ _. ⌜ tableOf (now (work .exit)) ≡ tableOf (now (work .entry)) ⌝ }
 {
-    copy(table, work);
-    phases(table, work);
+    let count = reads::in_all(&*work);
+    let mut k: usize = 0;
+    while k < count {
+        put_phases(work, k);
+        k += 1;
+    }
 }
 
 // The time of task j, number k, in mode m where it is a rival of the subject, else 0.

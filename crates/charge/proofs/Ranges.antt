@@ -123,7 +123,8 @@ module _ {tab : Table} (kept : Kept tab) where
     pub others-room : (i : ℕ) → i < transactions tab → sum i (otherCharge whole tab u a t) + otherCharge whole tab u a t i ≤ transactionsMost * chargeMost
     others-room i h = omega (arith, sum-room i other-charge-le h, kept .fewTransactions)
 
-    pub rivals-lt : {m : ℕ} → u < transactions tab → m < modes tab u → (c : ℕ) → rivals (laterOf whole) tab u a m c t < 2 ^ 60
+    -- and with the task's own transaction
+    pub rivals-le : {m : ℕ} → u < transactions tab → m < modes tab u → (c : ℕ) → rivals (laterOf whole) tab u a m c t ≤ (transactionsMost + 1) * chargeMost
     unfolding rivals others
-    rivals-lt h mode c =
+    rivals-le h mode c =
         omega (arith, charge-le h mode c, sum-most (transactions tab) other-charge-le, kept .fewTransactions)

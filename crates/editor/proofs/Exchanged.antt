@@ -1,18 +1,15 @@
 -- What an editor can rely on, call after call: the cells that reading filled hold the image's table, so writing them gives the image's
--- bytes; and reading what was written fills the cells with the row of the table that was written. The cells are those of the array.
-use mathlib.Core.Path.{_≡_, sym, ap, _∙_}
-use mathlib.Core.List.{List, _++_, append-nil}
+-- bytes; and reading what was written fills the cells with the row of the table that was written.
+use mathlib.Core.Path.{_≡_, ap, _∙_}
+use mathlib.Core.List.{List, _++_}
 use Prim.Native.Nat.{ℕ, _≤_}
-use native.Mathlib.Nat.{zero-add}
-use native.Mathlib.Omega.{arith}
 use lib.ListN.{length, take, drop}
-use lib.Seq.{sets, sets-eq, drop-length}
 use Rattle.format.specs.Said.{tableIn}
 use Rattle.format.specs.Fault.{IsAccepted}
 use Rattle.format.proofs.Kept.{kept}
 use Rattle.format.proofs.Round.{AreBytes}
-use Rattle.row.specs.Row.{rowCells, rowOf, tableOf}
-use Rattle.row.proofs.Rows.{row-size, row-holds}
+use Rattle.row.specs.Row.{rowOf, tableOf}
+use Rattle.row.proofs.Rows.{row-holds}
 use Rattle.round.proofs.Row.{row-timed}
 use Rattle.writer.specs.declared.Writing.{Writing}
 use Rattle.writer.specs.declared.Writing.the-variants.{Written}
@@ -20,17 +17,9 @@ use Rattle.writer.specs.Write.{Writes}
 use Rattle.writer.proofs.Returned.{written-read, read-written}
 use Rattle.editor.specs.Editor.{Takes}
 
--- a list that is stored over one of its own length is all that is left
-stored-whole : (before row : List ℕ) → length before ≡ length row → sets before 0 row ≡ row
-stored-whole before row same =
-    sets-eq row before 0 (omega (arith, zero-add (length row)))
-    ∙ rw (zero-add (length row), ← same, drop-length before) (append-nil row)
-
-module _ {image cells filled : List ℕ} {r : ℕ} (ok : IsAccepted image) (array : length cells ≡ rowCells) (taken : Takes image cells filled r) where
+module _ {image cells filled : List ℕ} {r : ℕ} (ok : IsAccepted image) (taken : Takes image cells filled r) where
   pub row-filled : filled ≡ rowOf (tableIn image)
-  row-filled =
-      taken .cells
-      ∙ rw ok (stored-whole cells (rowOf (tableIn image)) (array ∙ sym (row-size (tableIn image) (kept image ok))))
+  row-filled = rw ok at (taken .cells)
 
   -- the cells hold the image's table
   pub table-filled : tableOf filled ≡ tableIn image
@@ -49,9 +38,8 @@ module _ {image cells filled : List ℕ} {r : ℕ} (ok : IsAccepted image) (arra
 pub same-row :
     (row : List ℕ) {cells filled before after : List ℕ} {n r : ℕ}
     → Writes (tableOf row) before after (Written n)
-    → length cells ≡ rowCells
     → Takes (take n after) cells filled r
     → filled ≡ rowOf (tableOf row)
-same-row row x array taken =
+same-row row x taken =
     let back = written-read x (row-timed row) in
-    row-filled (back .0) array taken ∙ ap rowOf (back .1)
+    row-filled (back .0) taken ∙ ap rowOf (back .1)

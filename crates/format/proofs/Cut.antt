@@ -16,16 +16,16 @@ use Rattle.refusals.specs.Answer.{_then_, foundOf, firstOf, checked}
 use Rattle.refusals.proofs.Findings.{then-same, first-same}
 use Rattle.bits.specs.Bits.{bitAt, valueAt}
 use Rattle.table.specs.Sum.{sum}
-use Rattle.table.specs.Limits.{limits, frameWidth, transactionsWidth, modesWidth, tasksWidth, timeWidth}
+use Rattle.table.specs.Limits.{limits, transactionsMost, frameWidth, transactionsWidth, modesWidth, tasksWidth, timeWidth}
 use Rattle.table.specs.Fields.{HeaderField, HeadField, widthInHeader, widthInHead}
 use Rattle.table.specs.Rules.{headerRules, headRules, taskRules}
 use Rattle.table.proofs.Sum.{sum-ext}
-use Rattle.format.specs.Places.{frameAt, countAt, modesAt, tasksAt, jitterAt, blockingAt, deadlineAt, priorityAt, timeAt, placeInHeader, placeInHead, taskWidth, taskAt, past, start, bytesTo, longestImage}
+use Rattle.format.specs.Places.{frameAt, countAt, modesAt, tasksAt, jitterAt, blockingAt, deadlineAt, priorityAt, timeAt, headWidth, placeInHeader, placeInHead, taskWidth, taskAt, past, start, bytesTo, longestImage}
 use Rattle.format.specs.Said.{countIn, modesIn, tasksIn, tasksBefore}
 use Rattle.format.specs.Fault.{endsAt, lookAt, headerFault, headFault, taskFault, transactionFault, endFault, bodyFault, imageFault}
 use Rattle.format.proofs.Faults.{image-parts, body-parts, transaction-parts}
 use Rattle.format.proofs.Accepted.{SoundHead, sound-header, sound-head}
-use Rattle.format.proofs.Reach.{reach-most, head-reach, task-reach, sound-before}
+use Rattle.format.proofs.Reach.{bitsMost, reach-most, head-reach, task-reach, sound-before}
 
 -- the bits that are kept
 abbrev room : ℕ
@@ -73,7 +73,7 @@ module _ (image : List ℕ) (long : longestImage + 1 ≤ length image) where
       fits HeaderField.frame = omega arith
       fits HeaderField.count = omega arith
 
-  same-head : (before p : ℕ) → p + 33 ≤ room → headFault cut before p ≡ headFault image before p
+  same-head : (before p : ℕ) → p + headWidth ≤ room → headFault cut before p ≡ headFault image before p
   same-head before p h =
       ap₂ (λ major look. headRules _then_ limits major before look) (same-value frameAt frameWidth (omega arith))
       (same-look (placeInHead p) widthInHead fits)
@@ -108,12 +108,12 @@ module _ (image : List ℕ) (long : longestImage + 1 ≤ length image) where
   abbrev Sound : ℕ → Type 0
   Sound v = SoundHead image (tasksBefore image v) (start image v)
 
-  same-past : (p : ℕ) → p + 33 ≤ room → past cut p ≡ past image p
+  same-past : (p : ℕ) → p + headWidth ≤ room → past cut p ≡ past image p
   unfolding past
   same-past p h =
       ap₂ (taskAt p) (same-value (modesAt p) modesWidth (omega arith)) (same-value (tasksAt p) tasksWidth (omega arith))
 
-  same-start : (u : ℕ) → u ≤ 32 → ((v : ℕ) → v < u → Sound v) → start cut u ≡ start image u
+  same-start : (u : ℕ) → u ≤ transactionsMost → ((v : ℕ) → v < u → Sound v) → start cut u ≡ start image u
   unfolding start
   same-start zero h each = refl
   same-start (suc u) h each =
@@ -121,7 +121,7 @@ module _ (image : List ℕ) (long : longestImage + 1 ≤ length image) where
       ap (past cut) (same-start u (omega arith) fewer)
       ∙ same-past (start image u) (omega (arith, head-reach image u h fewer))
 
-  same-before : (u : ℕ) → u ≤ 32 → ((v : ℕ) → v < u → Sound v) → tasksBefore cut u ≡ tasksBefore image u
+  same-before : (u : ℕ) → u ≤ transactionsMost → ((v : ℕ) → v < u → Sound v) → tasksBefore cut u ≡ tasksBefore image u
   unfolding tasksBefore
   same-before u h each =
       sum-ext u
@@ -132,14 +132,14 @@ module _ (image : List ℕ) (long : longestImage + 1 ≤ length image) where
 
   same-transaction :
       (u : ℕ)
-      → u < 32
+      → u < transactionsMost
       → ((v : ℕ) → v < u → Sound v)
       → transactionFault cut (tasksBefore cut u) (start cut u) ≡ transactionFault image (tasksBefore image u) (start image u)
   unfolding start
   same-transaction u h each =
       let p = start image u in
       let before = tasksBefore image u in
-      let near : p + 33 ≤ 20_162 = head-reach image u h each in
+      let near : p + headWidth ≤ bitsMost = head-reach image u h each in
       ap₂ (transactionFault cut) (same-before u (omega arith) each) (same-start u (omega arith) each)
       ∙ transaction-parts cut before p
       ∙ rw (
@@ -150,7 +150,7 @@ module _ (image : List ℕ) (long : longestImage + 1 ≤ length image) where
       (then-same (headFault image before p)
       (λ clear.
       let here : Sound u = sound-head image before p clear in
-      let next : start image (suc u) ≤ 20_162 = reach-most image (suc u) h (more here) in
+      let next : start image (suc u) ≤ bitsMost = reach-most image (suc u) h (more here) in
       first-same (tasksIn image p) _ _
       (λ j within so-far. same-task (modesIn image p) (taskAt p (modesIn image p) j) (omega (arith, task-reach image p j within, next)))))
       ∙ sym (transaction-parts image before p)
@@ -164,7 +164,7 @@ module _ (image : List ℕ) (long : longestImage + 1 ≤ length image) where
 
   -- ---- the end, and the whole
 
-  same-close : (p : ℕ) → p ≤ 20_162 → endFault cut p ≡ endFault image p
+  same-close : (p : ℕ) → p ≤ bitsMost → endFault cut p ≡ endFault image p
   unfolding endFault
   same-close p h =
       ap₂ _then_
@@ -175,7 +175,7 @@ module _ (image : List ℕ) (long : longestImage + 1 ≤ length image) where
   abbrev found : List ℕ → (u : ℕ) → Answer
   found bytes u = transactionFault bytes (tasksBefore bytes u) (start bytes u)
 
-  same-body : countIn image ≤ 32 → bodyFault cut ≡ bodyFault image
+  same-body : countIn image ≤ transactionsMost → bodyFault cut ≡ bodyFault image
   same-body few =
       let n = countIn image in
       let count : countIn cut ≡ n = same-value countAt transactionsWidth (omega arith) in

@@ -1,5 +1,6 @@
 pub mod Places
 pub mod Faults
+pub mod Raised
 pub mod Reached
 pub mod Accepted
 pub mod Sound

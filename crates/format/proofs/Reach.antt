@@ -7,7 +7,7 @@ use native.Mathlib.Nat.{mul-le-mul, le-refl, add-mul, one-mul}
 use native.Mathlib.Omega.{arith}
 use lib.ListN.{length}
 use Rattle.table.specs.Sum.{sum}
-use Rattle.table.specs.Limits.{limits}
+use Rattle.table.specs.Limits.{limits, transactionsMost, modesMost, tasksInAll}
 use Rattle.table.specs.Fields.{HeaderField, HeadField, TaskField, Field, IsTaskField}
 use Rattle.table.specs.Rules.{Look, tableRules}
 use Rattle.table.proofs.Rules.{SoundTable, sound-table}
@@ -16,16 +16,19 @@ use Rattle.refusals.specs.declared.Answer.{Answer}
 use Rattle.refusals.specs.declared.Answer.the-variants.{Accepted, Refused}
 use Rattle.refusals.specs.Answer.{answerPlace, _then_, firstOf}
 use Rattle.refusals.proofs.Findings.{then-joins, Only, only-checked, only-then}
-use Rattle.format.specs.Places.{firstAt, placeInHeader, placeInHead, placeInTask, taskWidth, taskAt, past, start, longestImage}
+use Rattle.format.specs.Places.{firstAt, headWidth, placeInHeader, placeInHead, placeInTask, taskWidth, taskAt, past, start, longestImage}
 use Rattle.format.specs.Said.{countIn, modesIn, tasksIn, tasksBefore}
 use Rattle.format.specs.Fault.{imageLook, transactionFault, endFault, imageFault, IsAccepted}
 use Rattle.format.proofs.Reached.{HeadHolds, few-before, Reached, heads-hold, only-table}
 use Rattle.format.proofs.Accepted.{SoundHead, header, head, end}
 
--- the widest task has 298 bits, and each transaction adds its head of 33
-tasks-reach : (n m : ℕ) → m ≤ 8 → n * taskWidth m ≤ n * 298
+-- the bits of a header, of as many heads as there may be, and of as many tasks with a time for each mode
+abbrev pub bitsMost : ℕ
+bitsMost = firstAt + headWidth * transactionsMost + taskWidth modesMost * tasksInAll
+
+tasks-reach : (n m : ℕ) → m ≤ modesMost → n * taskWidth m ≤ n * taskWidth modesMost
 tasks-reach n m narrow =
-    let wide : taskWidth m ≤ 298 = omega arith in
+    let wide : taskWidth m ≤ taskWidth modesMost = omega arith in
     mul-le-mul (le-refl n) wide
 
 -- task j of n ends where the last one does, or before
@@ -72,7 +75,7 @@ module _ {look : Look Field} {begin : ℕ → ℕ} (placed : Placed look begin) 
 
   -- where the heads of the first u transactions hold
   reach :
-      (u : ℕ) → ((v : ℕ) → v < u → Holds v) → begin u ≤ 34 + 33 * u + 298 * sum u (λ v. look .number (Field.head v HeadField.tasks))
+      (u : ℕ) → ((v : ℕ) → v < u → Holds v) → begin u ≤ firstAt + headWidth * u + taskWidth modesMost * sum u (λ v. look .number (Field.head v HeadField.tasks))
   unfolding sum
   reach zero each = omega (arith, placed .first)
   reach (suc u) each =
@@ -83,11 +86,11 @@ module _ {look : Look Field} {begin : ℕ → ℕ} (placed : Placed look begin) 
         tasks-reach (look .number (Field.head u HeadField.tasks)) (look .number (Field.head u HeadField.modes)) (each u (omega arith) .fewModes),
       )
 
-  all-reach : (u : ℕ) → u ≤ 32 → ((v : ℕ) → v < u → Holds v) → begin u ≤ 20_162
+  all-reach : (u : ℕ) → u ≤ transactionsMost → ((v : ℕ) → v < u → Holds v) → begin u ≤ bitsMost
   all-reach u h each = omega (arith, reach u each, few-before limits look u each)
 
   -- the head of a transaction that is not too many ends before
-  next-reach : (u : ℕ) → u < 32 → ((v : ℕ) → v < u → Holds v) → begin u + 33 ≤ 20_162
+  next-reach : (u : ℕ) → u < transactionsMost → ((v : ℕ) → v < u → Holds v) → begin u + headWidth ≤ bitsMost
   next-reach u h each = omega (arith, reach u each, few-before limits look u each)
 
   place-reach : (f : Field) → Reached limits look f → look .place f ≤ most
@@ -119,11 +122,11 @@ module _ (image : List ℕ) where
   abbrev Sound : ℕ → Type 0
   Sound v = SoundHead image (tasksBefore image v) (start image v)
 
-  pub reach-most : (u : ℕ) → u ≤ 32 → ((v : ℕ) → v < u → Sound v) → start image u ≤ 20_162
+  pub reach-most : (u : ℕ) → u ≤ transactionsMost → ((v : ℕ) → v < u → Sound v) → start image u ≤ bitsMost
   unfolding tasksBefore
   reach-most u h each = all-reach placed-image u h each
 
-  pub head-reach : (u : ℕ) → u < 32 → ((v : ℕ) → v < u → Sound v) → start image u + 33 ≤ 20_162
+  pub head-reach : (u : ℕ) → u < transactionsMost → ((v : ℕ) → v < u → Sound v) → start image u + headWidth ≤ bitsMost
   unfolding tasksBefore
   head-reach u h each = next-reach placed-image u h each
 
@@ -144,12 +147,12 @@ module _ (image : List ℕ) where
   unfolding tasksBefore
   sound-before n clear v h = heads-hold limits (imageLook image) n clear v h
 
-  -- no accepted image is longer than 2,521 bytes
+  -- no accepted image is longer than the longest
   pub longest : IsAccepted image → length image ≤ longestImage
   longest ok =
       omega (arith, end image ok .last, reach-most (countIn image) (header image ok .few) (head image ok))
 
-  end-place : (p : ℕ) → p ≤ 20_162 → Within (endFault image p)
+  end-place : (p : ℕ) → p ≤ bitsMost → Within (endFault image p)
   unfolding endFault
   end-place p h =
       only-then Near _ _ (only-checked Near _ _ _ (omega arith)) (λ e. only-checked Near _ _ _ (omega arith))
@@ -163,6 +166,6 @@ module _ (image : List ℕ) where
       end-place (start image (countIn image))
       (all-reach placed-image (countIn image) (sound .header .few) (λ v below. sound .transaction v below .head)))
 
-  -- every place is at most 20,168, whatever the bytes are
+  -- every place lies in it or at its end, whatever the bytes are
   pub furthest : answerPlace (imageFault image) ≤ 8 * longestImage
   furthest = within-place (imageFault image) image-place

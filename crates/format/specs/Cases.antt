@@ -3,12 +3,13 @@ use mathlib.Core.Path.{_≡_, refl}
 use mathlib.Core.List.{List, [], _∷_, _++_, map}
 use Prim.Native.Nat.{ℕ}
 use lib.ListN.{take, replicate, set}
+use Rattle.table.specs.Raised.{limitsBefore}
 use Rattle.table.specs.Sample.{plain, lone}
 use Rattle.refusals.specs.declared.Answer.the-variants.{Accepted, Refused}
 use Rattle.refusals.specs.declared.Refusal.the-variants.{EndsInside, EditionUnknown, FrameZero, TransactionCount, PeriodUnfit, ModeCount, TaskCount, DeadlineZero, NeverRuns, PaddingSet, BytesFollow}
 use Rattle.refusals.specs.Answer.{answerNumber}
 use Rattle.format.specs.Said.{tableIn}
-use Rattle.format.specs.Fault.{headFault, imageFault}
+use Rattle.format.specs.Fault.{headFault, faultUnder, imageFault}
 use Rattle.format.specs.Computing.{computing}
 
 -- one task, frame 10, T 10, C 3, P 5, D 10
@@ -45,7 +46,7 @@ distinct-is-accepted : imageFault distinct ≡ Accepted
 unfolding computing
 distinct-is-accepted = refl
 
--- each refusal, at its place: the image with a byte changed, cut or added to
+-- each refusal, at its place: the image with a byte changed, cut or added to; 0xA8 counts 33 transactions, of which one is there
 abbrev faulty : List (List ℕ)
 faulty =
     []
@@ -78,7 +79,7 @@ refusals :
     ∷ Refused EditionUnknown 0
     ∷ Refused FrameZero 4
     ∷ Refused TransactionCount 28
-    ∷ Refused TransactionCount 28
+    ∷ Refused EndsInside 197
     ∷ Refused PeriodUnfit 34
     ∷ Refused PeriodUnfit 34
     ∷ Refused ModeCount 58
@@ -94,7 +95,12 @@ refusals :
 unfolding computing
 refusals = refl
 
-numbers : map (λ image. answerNumber (imageFault image)) (last ∷ faulty) ≡ 0 ∷ 1 ∷ 1 ∷ 1 ∷ 1 ∷ 2 ∷ 3 ∷ 4 ∷ 4 ∷ 5 ∷ 5 ∷ 6 ∷ 6 ∷ 7 ∷ 7 ∷ 8 ∷ 9 ∷ 10 ∷ 10 ∷ 11 ∷ []
+-- under document 01's limits those 33 were too many
+before : faultUnder limitsBefore (set last 3 0xA8) ≡ Refused TransactionCount 28
+unfolding computing
+before = refl
+
+numbers : map (λ image. answerNumber (imageFault image)) (last ∷ faulty) ≡ 0 ∷ 1 ∷ 1 ∷ 1 ∷ 1 ∷ 2 ∷ 3 ∷ 4 ∷ 1 ∷ 5 ∷ 5 ∷ 6 ∷ 6 ∷ 7 ∷ 7 ∷ 8 ∷ 9 ∷ 10 ∷ 10 ∷ 11 ∷ []
 unfolding computing
 numbers = refl
 
@@ -132,11 +138,11 @@ first-faults :
 unfolding computing
 first-faults = refl
 
--- the sum so far with this transaction's one task: 64, and 65
-with-63-before : headFault last 63 34 ≡ Accepted
+-- the sum so far with this transaction's one task: 128, and 129
+with-127-before : headFault last 127 34 ≡ Accepted
 unfolding computing
-with-63-before = refl
+with-127-before = refl
 
-with-64-before : headFault last 64 34 ≡ Refused TaskCount 62
+with-128-before : headFault last 128 34 ≡ Refused TaskCount 62
 unfolding computing
-with-64-before = refl
+with-128-before = refl

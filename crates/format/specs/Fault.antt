@@ -6,7 +6,7 @@ use Prim.Native.Nat.{ℕ, _-_, _*_}
 use lib.ListN.{length}
 use lib.Dec.{leb, eqb}
 use Rattle.bits.specs.Bits.{valueAt, isInside}
-use Rattle.table.specs.Limits.{limits}
+use Rattle.table.specs.Limits.{Limits, limits}
 use Rattle.table.specs.Fields.{Field, widthInHeader, widthInHead, widthInTask, width}
 use Rattle.table.specs.Fields.Field.{header, head, task}
 use Rattle.table.specs.Rules.{Look, headerRules, headRules, taskRules, transactionRules, bodyRules, tableRules}
@@ -40,8 +40,12 @@ endFault image p =
     checked (eqb (valueAt image p (8 * bytesTo p - p)) 0) PaddingSet p
     then checked (leb (length image) (bytesTo p)) BytesFollow (8 * bytesTo p)
 
+-- the first fault under those limits, and under those that there are
+abbrev pub faultUnder : Limits → List ℕ → Answer
+faultUnder most image = tableRules _then_ most (imageLook image) then endFault image (start image (countIn image))
+
 unfoldable pub imageFault : List ℕ → Answer
-imageFault image = tableRules _then_ limits (imageLook image) then endFault image (start image (countIn image))
+imageFault image = faultUnder limits image
 
 -- the image is accepted
 abbrev pub IsAccepted : List ℕ → Type 0

@@ -97,4 +97,4 @@ bytesTo p = (p + 7) / 8
 
 -- the longest image, in bytes
 abbrev pub longestImage : ℕ
-longestImage = 2_521
+longestImage = 5_033

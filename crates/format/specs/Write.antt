@@ -5,7 +5,7 @@ use Prim.Native.Nat.{ℕ, zero, suc, _^_}
 use lib.ListN.{length}
 use lib.Dec.{ltb, leb}
 use Rattle.table.specs.Table.{Table, modes, tasks}
-use Rattle.table.specs.Limits.{limits}
+use Rattle.table.specs.Limits.{Limits, limits}
 use Rattle.table.specs.Fields.{Field, width, numberIn}
 use Rattle.table.specs.Fields.Field.{header, head, task}
 use Rattle.table.specs.Rules.{Look, tableRules}
@@ -30,9 +30,12 @@ placeOf tab (task u j f) = placeInTask (taskAt (startOf tab u) (modes tab u) j) 
 abbrev pub tableLook : Table → Look Field
 tableLook tab = record { finding = λ f. checked (ltb (numberIn tab f) (2 ^ width f)) TooLarge (placeOf tab f); place = placeOf tab; number = numberIn tab }
 
--- the first fault of a table
+-- the first fault of a table under those limits, and under those that there are
+abbrev pub tableFaultUnder : Limits → Table → Answer
+tableFaultUnder most tab = tableRules _then_ most (tableLook tab)
+
 unfoldable pub tableFault : Table → Answer
-tableFault tab = tableRules _then_ limits (tableLook tab)
+tableFault tab = tableFaultUnder limits tab
 
 -- and of writing it into a buffer of so many bytes
 unfoldable pub writeFault : Table → (room : ℕ) → Answer

@@ -24,7 +24,7 @@ header :
     ∷ []
     ≡ (Refused EditionUnknown 0 ∷ Refused EditionUnknown 0 ∷ Refused EditionUnknown 0 ∷ Refused TooLarge 0 ∷ Refused FrameZero 4 ∷ [])
     ∷ (Refused TooLarge 4 ∷ Refused TransactionCount 28 ∷ [])
-    ∷ (Refused TransactionCount 28 ∷ Refused TransactionCount 28 ∷ Refused TransactionCount 28 ∷ Refused TooLarge 28 ∷ [])
+    ∷ (Refused TransactionCount 28 ∷ Refused TaskCount 62 ∷ Refused TaskCount 62 ∷ Refused TooLarge 28 ∷ [])
     ∷ []
 unfolding computing startOf tableFault
 header = refl

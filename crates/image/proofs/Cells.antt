@@ -5,12 +5,12 @@ use Prim.Native.Nat.{ℕ, zero, suc, _+_, _*_, _≤_, _<_}
 use native.Mathlib.Nat.{add-mul, add-zero}
 use native.Mathlib.Omega.{arith}
 use lib.ListN.{length, getD, length-append}
-use lib.Seq.{sets, ext-getD}
+use lib.Seq.{sets, length-sets, ext-getD}
 use Rattle.table.specs.Sum.{sum}
-use Rattle.format.specs.Said.{periodIn, modesIn, tasksIn, taskIn, transactionIn, tasksBefore}
+use Rattle.format.specs.Said.{editionIn, frameIn, countIn, periodIn, modesIn, tasksIn, taskIn, transactionIn, tasksBefore}
 use Rattle.format.specs.Places.{taskWidth, start}
 use Rattle.row.specs.Row.{headerCells, transactionCells, taskCells, tasksCell, ofTransaction, ofTask}
-use Rattle.image.specs.Fill.{tasksCells, headsIn, ofTasksIn, everyTaskIn, transactionsOver}
+use Rattle.image.specs.Fill.{tasksCells, headsIn, ofTasksIn, everyTaskIn, transactionsOver, filledOver}
 use Rattle.table.specs.Limits.{transactionsMost}
 use Rattle.table.specs.Lists.{listOf, joined, padded}
 use Rattle.table.proofs.Lists.{length-listOf, getD-listOf, length-joined, join-next, length-padded, getD-padded, sets-padded, sets-within, sets-before}
@@ -50,6 +50,17 @@ pub length-every : (image : List ℕ) (n : ℕ) → length (everyTaskIn image n)
 unfolding everyTaskIn joined tasksBefore sum ofTasksIn
 length-every image zero = refl
 length-every image (suc n) = rw (length-append, length-every image n, length-tasks, add-mul)
+
+-- and storing them leaves as many cells as there were
+pub length-transactions : (image : List ℕ) (n : ℕ) (cells : List ℕ) → length (transactionsOver image n cells) ≡ length cells
+unfolding transactionsOver
+length-transactions image n cells = length-sets (sets cells headerCells (headsIn image n)) tasksCell (everyTaskIn image n) ∙ length-sets cells headerCells (headsIn image n)
+
+pub length-filled : (image cells : List ℕ) → length (filledOver image cells) ≡ length cells
+unfolding filledOver
+length-filled image cells =
+    length-sets (transactionsOver image (countIn image) cells) 0 (editionIn image ∷ frameIn image ∷ countIn image ∷ tasksBefore image (countIn image) ∷ 0 ∷ [])
+    ∙ length-transactions image (countIn image) cells
 
 -- a group with one more behind it
 

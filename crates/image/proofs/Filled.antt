@@ -1,5 +1,5 @@
 -- What the fill leaves, group by group, is the row of the table that the image says.
-use mathlib.Core.Path.{_≡_, refl, sym, ap, _∙_}
+use mathlib.Core.Path.{_≡_, refl, sym, _∙_}
 use mathlib.Core.List.{List, [], _∷_, _++_}
 use Prim.Native.Nat.{ℕ, _*_, _≤_, _<_}
 use native.Mathlib.Omega.{arith}
@@ -14,7 +14,7 @@ use Rattle.format.specs.Said.{editionIn, frameIn, countIn, tasksIn, tableIn, ta
 use Rattle.row.specs.Row.{headerCells, transactionCells, taskCells, tasksCell, rowCells, ofTransaction, ofTask, ofHeader, rowOf, emptyRow}
 use Rattle.image.specs.Fill.{tasksCells, headsIn, ofTasksIn, everyTaskIn, transactionsOver, filledOver}
 use Rattle.format.specs.Fault.{IsAccepted}
-use Rattle.table.proofs.Lists.{joined-same, length-padded, padded-again, sets-padded, sets-within}
+use Rattle.table.proofs.Lists.{joined-same, length-padded, padded-again, sets-padded, sets-first}
 use Rattle.format.proofs.Accepted.{header, few-tasks}
 use Rattle.image.proofs.Cells.{length-heads, length-every}
 use Rattle.format.proofs.Said.{said-edition, said-frame, said-transactions, said-transaction, said-tasks, said-task, said-before, said-in-all}
@@ -95,20 +95,17 @@ module _ (image : List ℕ) where
         few-every
         ∙ rw (said-heads, said-every, said-header)
 
-    -- into cells whose first are zeros, as many as the row has
-    pub filled-over : (cells : List ℕ) → filledOver image (sets cells 0 emptyRow) ≡ sets cells 0 (rowOf tab)
-    unfolding filledOver transactionsOver padded
-    filled-over cells =
+    -- into the front of longer cells: those behind the row stay
+    pub filled-front : (cells rest : List ℕ) → length cells ≡ rowCells → filledOver image (cells ++ rest) ≡ filledOver image cells ++ rest
+    unfolding filledOver transactionsOver
+    filled-front cells rest long =
         let heads = headsIn image (countIn image) in
         let every = everyTaskIn image (countIn image) in
-        let long : length emptyRow ≡ rowCells = length-padded rowCells [] (omega arith) in
-        let one = sets emptyRow headerCells heads in
-        let two = sets one tasksCell every in
-        let one-long : length one ≡ rowCells = length-sets emptyRow headerCells heads ∙ long in
-        let two-long : length two ≡ rowCells = length-sets one tasksCell every ∙ one-long in
+        let one = sets cells headerCells heads in
+        let one-long : length one ≡ rowCells = length-sets cells headerCells heads ∙ long in
+        let two-long : length (sets one tasksCell every) ≡ rowCells = length-sets one tasksCell every ∙ one-long in
         rw (
-          sets-within heads emptyRow cells 0 headerCells (omega (arith, few-heads)),
-          sets-within every one cells 0 tasksCell (omega (arith, few-every)),
-          sets-within (editionIn image ∷ frameIn image ∷ countIn image ∷ tasksBefore image (countIn image) ∷ 0 ∷ []) two cells 0 0 (omega arith),
+          sets-first heads cells rest headerCells (omega (arith, few-heads)),
+          sets-first every one rest tasksCell (omega (arith, few-every)),
+          sets-first (editionIn image ∷ frameIn image ∷ countIn image ∷ tasksBefore image (countIn image) ∷ 0 ∷ []) (sets one tasksCell every) rest 0 (omega arith),
         )
-        (ap (λ (l : List ℕ). sets cells 0 l) filled)

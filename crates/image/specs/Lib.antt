@@ -1,3 +1,4 @@
 pub mod Head
 pub mod Fill
 pub mod Read
+pub mod Cases

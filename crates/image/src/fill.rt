@@ -1,4 +1,4 @@
-// The row of an accepted image: a fill that cannot fail, into lent cells.
+// The row of an accepted image: a fill that cannot fail, into the front of lent cells, which are as many as a row has or more.
 use super::parts::body_at;
 use super::parts::end_of;
 use super::parts::head_at;
@@ -8,7 +8,7 @@ use row::Transaction;
 ghost use mathlib.Core.Path.{_≡_};
 ghost use mathlib.Core.List.{[], _∷_};
 ghost use Prim.Native.Nat.{_+_, _*_, _^_, _<_, _≤_};
-ghost use lib.ListN.{getD};
+ghost use lib.ListN.{length, getD};
 ghost use lib.Seq.{sets};
 ghost use Rattle.bits.specs.Bits.{valueAt};
 ghost use Rattle.table.specs.Limits.{timeWidth, modesMost};
@@ -19,8 +19,9 @@ ghost use Rattle.image.specs.Fill.{tasksCells, transactionsOver, filledO
 ghost use Rattle.format.specs.Fault.{IsAccepted};
 
 // So many cells are 0.
-pub(crate) fn clear(cells: &mut [u32; Table::CELLS], from: usize, count: usize)
+fn clear(cells: &mut [u32], from: usize, count: usize)
     requires { ⌜ from + count ≤ rowCells ⌝ }
+    requires { ⌜ rowCells ≤ length (now cells) ⌝ }
     ensures { λ _. ⌜ now (cells .exit) ≡ sets (now (cells .entry)) from (padded count []) ⌝ }
 {
     let mut k: usize = 0;
@@ -31,10 +32,11 @@ pub(crate) fn clear(cells: &mut [u32; Table::CELLS], from: usize, count: usize)
 }
 
 // The times in so many modes, the first of which starts at a bit position; in the modes beyond them 0.
-fn put_times(image: &[u8], modes: usize, at: usize, cells: &mut [u32; Table::CELLS], cell: usize)
+fn put_times(image: &[u8], modes: usize, at: usize, cells: &mut [u32], cell: usize)
     requires { ⌜ modes ≤ modesMost ⌝ }
     requires { ⌜ at < 2 ^ 33 ⌝ }
     requires { ⌜ cell + modesMost ≤ rowCells ⌝ }
+    requires { ⌜ rowCells ≤ length (now cells) ⌝ }
     ensures { λ _. ⌜ now (cells .exit) ≡ sets (now (cells .entry)) cell (listOf modesMost (λ m. getD (listOf modes (λ k. valueAt (now (image .entry)) (at + k * timeWidth) timeWidth)) m 0)) ⌝ }
 {
     clear(cells, cell, Transaction::MODES);
@@ -46,17 +48,11 @@ fn put_times(image: &[u8], modes: usize, at: usize, cells: &mut [u32; Table::CEL
 }
 
 // The task of so many modes that starts at a bit position, a task of transaction `owner`.
-fn put_task(
-    image: &[u8],
-    modes: usize,
-    at: usize,
-    owner: u32,
-    cells: &mut [u32; Table::CELLS],
-    cell: usize,
-)
+fn put_task(image: &[u8], modes: usize, at: usize, owner: u32, cells: &mut [u32], cell: usize)
     requires { ⌜ modes ≤ modesMost ⌝ }
     requires { ⌜ at < 2 ^ 32 ⌝ }
     requires { ⌜ cell + taskCells ≤ rowCells ⌝ }
+    requires { ⌜ rowCells ≤ length (now cells) ⌝ }
     ensures { λ _. ⌜ now (cells .exit) ≡ sets (now (cells .entry)) cell (ofTask owner (taskIn (now (image .entry)) modes at)) ⌝ }
 {
     let held = body_at(image, at);
@@ -76,11 +72,12 @@ fn put_task(
 }
 
 // A transaction but its tasks, the first of which has the number `first`.
-fn put_head(held: Transaction, first: usize, cells: &mut [u32; Table::CELLS], cell: usize)
+fn put_head(held: Transaction, first: usize, cells: &mut [u32], cell: usize)
     requires { ⌜ held .modes < 16 ⌝ }
     requires { ⌜ held .tasks < 32 ⌝ }
     requires { ⌜ first < 2 ^ 32 ⌝ }
     requires { ⌜ cell + transactionCells ≤ rowCells ⌝ }
+    requires { ⌜ rowCells ≤ length (now cells) ⌝ }
     ensures { λ _. ⌜ now (cells .exit) ≡ sets (now (cells .entry)) cell (held .period ∷ held .modes ∷ first ∷ held .tasks ∷ 0 ∷ []) ⌝ }
 {
     cells[cell + Transaction::PERIOD_CELL] = held.period;
@@ -97,13 +94,14 @@ fn put_tasks(
     count: usize,
     at: usize,
     owner: u32,
-    cells: &mut [u32; Table::CELLS],
+    cells: &mut [u32],
     cell: usize,
 )
     requires { ⌜ modes ≤ modesMost ⌝ }
     requires { ⌜ count < 32 ⌝ }
     requires { ⌜ at < 2 ^ 31 ⌝ }
     requires { ⌜ cell + count * taskCells ≤ rowCells ⌝ }
+    requires { ⌜ rowCells ≤ length (now cells) ⌝ }
     ensures { λ _. ⌜ now (cells .exit) ≡ sets (now (cells .entry)) cell (tasksCells (now (image .entry)) modes at owner count) ⌝ }
 {
     let size = Task::TIMES_AT + modes * Task::TIME_WIDTH;
@@ -122,9 +120,10 @@ fn put_tasks(
 }
 
 // The transactions, so many, with their tasks. The result is how many tasks there are in all.
-fn put_transactions(image: &[u8], count: usize, cells: &mut [u32; Table::CELLS]) -> u32
+fn put_transactions(image: &[u8], count: usize, cells: &mut [u32]) -> u32
     requires { ⌜ IsAccepted (now image) ⌝ }
     requires { ⌜ count ≡ countIn (now image) ⌝ }
+    requires { ⌜ rowCells ≤ length (now cells) ⌝ }
     ensures { λ r. ⌜ r ≡ tasksBefore (now (image .entry)) (countIn (now (image .entry))) ⌝ }
     ensures { λ _. ⌜ now (cells .exit) ≡ transactionsOver (now (image .entry)) (countIn (now (image .entry))) (now (cells .entry)) ⌝ }
 {
@@ -155,8 +154,9 @@ fn put_transactions(image: &[u8], count: usize, cells: &mut [u32; Table::CELLS])
     before as u32
 }
 
-pub(crate) fn fill(image: &[u8], cells: &mut [u32; Table::CELLS])
+pub(crate) fn fill(image: &[u8], cells: &mut [u32])
     requires { ⌜ IsAccepted (now image) ⌝ }
+    requires { ⌜ rowCells ≤ length (now cells) ⌝ }
     ensures { λ _. ⌜ now (cells .exit) ≡ filledOver (now (image .entry)) (now (cells .entry)) ⌝ }
 {
     let edition = bits::value(image, 0, Table::EDITION_WIDTH);

@@ -23,7 +23,7 @@ fn wide(x: u32) -> u64 {
 }
 
 // The longest line: `accepted`, a number of at most 10 digits with a space before it for each cell, and its end. A line is
-// made whole and then written by one call.
+// made whole and then written by one call; cells and line are cleared once, and not for each case.
 const LINE: usize = 8 + 11 * sumpcandle::CELLS + 1;
 
 // Puts a byte into the line, and answers where the next one goes.
@@ -79,9 +79,7 @@ fn cells_of(tasks: usize) -> usize
     }
 }
 
-fn accepted(cells: &[u32; sumpcandle::CELLS], tasks: usize) {
-    let mut space = [0u8; LINE];
-    let line: &mut [u8] = &mut space;
+fn accepted(line: &mut [u8], cells: &[u32; sumpcandle::CELLS], tasks: usize) {
     let mut at = word(line, 0, b"accepted");
     for k in 0..cells_of(tasks) {
         at = number(line, at, wide(cells[k]));
@@ -89,9 +87,7 @@ fn accepted(cells: &[u32; sumpcandle::CELLS], tasks: usize) {
     write(line, at);
 }
 
-fn refused(told: Filled) {
-    let mut space = [0u8; LINE];
-    let line: &mut [u8] = &mut space;
+fn refused(line: &mut [u8], told: Filled) {
     let start = word(line, 0, b"refused");
     let middle = number(line, start, wide(told.number()));
     let end = number(line, middle, told.place() as u64);
@@ -99,21 +95,26 @@ fn refused(told: Filled) {
 }
 
 // Answers the first n bytes.
-fn answer(bytes: &[u8], n: usize, budget: u32) {
+fn answer(
+    bytes: &[u8],
+    n: usize,
+    budget: u32,
+    cells: &mut [u32; sumpcandle::CELLS],
+    line: &mut [u8],
+) {
     if bytes.len() < n {
         return;
     }
     let image = &bytes[..n];
-    let mut cells = [0u32; sumpcandle::CELLS];
-    let told = sumpcandle::cells(image, budget, &mut cells);
+    let told = sumpcandle::cells(image, budget, cells);
     match told {
-        Filled::Done(tasks) => accepted(&cells, tasks),
-        Filled::Refused(_, _) => refused(told),
+        Filled::Done(tasks) => accepted(line, cells, tasks),
+        Filled::Refused(_, _) => refused(line, told),
     }
 }
 
 // One case; false at the end of the input.
-fn case(image: &mut [u8]) -> bool {
+fn case(image: &mut [u8], cells: &mut [u32; sumpcandle::CELLS], line: &mut [u8]) -> bool {
     let mut head = [0u8; 6];
     if io::read_full(STDIN_FILENO, &mut head) < 6 {
         return false;
@@ -126,15 +127,17 @@ fn case(image: &mut [u8]) -> bool {
     if io::read_full(STDIN_FILENO, &mut image[..length]) < length {
         return false;
     }
-    answer(image, length, budget);
+    answer(image, length, budget, cells, line);
     true
 }
 
 fn main() {
     let mut image = io::large_buffer();
+    let mut cells = [0u32; sumpcandle::CELLS];
+    let mut line = [0u8; LINE];
     let mut left: u32 = 4_000_000_000;
     while 0 < left {
-        if case(&mut image) {
+        if case(&mut image, &mut cells, &mut line) {
             left -= 1;
         } else {
             left = 0;

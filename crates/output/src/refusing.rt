@@ -11,7 +11,7 @@ fn reason(whole: bool, refusal: Refusal) -> bool {
         Refusal::EndsInside => say(whole, b"it ends inside a field"),
         Refusal::EditionUnknown => say(whole, b"edition is not 1"),
         Refusal::FrameZero => say(whole, b"the major frame is 0"),
-        Refusal::TransactionCount => say(whole, b"not 1 to 32 transactions"),
+        Refusal::TransactionCount => say(whole, b"not 1 to 63 transactions"),
         Refusal::PeriodUnfit => say(
             whole,
             b"a period that is 0 or does not divide the major frame",
@@ -19,7 +19,7 @@ fn reason(whole: bool, refusal: Refusal) -> bool {
         Refusal::ModeCount => say(whole, b"not 1 to 8 modes"),
         Refusal::TaskCount => say(
             whole,
-            b"not 1 to 16 tasks in a transaction, or more than 64 in all",
+            b"not 1 to 16 tasks in a transaction, or more than 128 in all",
         ),
         Refusal::DeadlineZero => say(whole, b"a deadline of 0"),
         Refusal::NeverRuns => say(whole, b"a task with time 0 in every mode"),

@@ -6,8 +6,8 @@ use row::Table;
 ghost use Prim.Native.Nat.{_≤_, _<_, _^_};
 ghost use lib.ListN.{length};
 
-// More bytes than any line of the input has.
-const MOST: usize = 4096;
+// More bytes than the longest image has.
+const MOST: usize = image::Reading::LONGEST + 1;
 
 fn main() {
     let mut text = io::large_buffer();

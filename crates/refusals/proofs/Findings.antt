@@ -52,6 +52,11 @@ unfolding _then_
 then-assoc Accepted b c = refl
 then-assoc (Refused r at) b c = refl
 
+pub then-accepted : (a : Answer) → (a then Accepted) ≡ a
+unfolding _then_
+then-accepted Accepted = refl
+then-accepted (Refused r at) = refl
+
 -- a rule among findings, and three rules
 
 pub one-rule : (a b c d e f : Answer) → (a then b then c then d then e then f) ≡ (a then (b then c) then d then e then f)
@@ -159,3 +164,31 @@ module _ (P : Refusal → ℕ → Type 0) where
   only-first (suc n) f each =
       only-then (firstOf n f) (f n) (only-first n f (λ k h so-far. each k (omega arith) so-far))
       (each n (omega arith))
+
+-- ---- the same findings, but that some checks let more pass: what was given is given again, unless it was a refusal of theirs
+
+module _ (Of : Refusal → Type 0) where
+  -- b is a, unless a is such a refusal
+  abbrev pub Stays : (a b : Answer) → Type 0
+  Stays a b = Only (λ refusal at. ¬ Of refusal) a → b ≡ a
+
+  pub stays-accepted : {a b : Answer} → Stays a b → a ≡ Accepted → b ≡ Accepted
+  stays-accepted stays ok = stays (rw ok tt) ∙ ok
+
+  pub stays-refused : {a b : Answer} → Stays a b → {refusal : Refusal} {at : ℕ} → a ≡ Refused refusal at → ¬ Of refusal → b ≡ Refused refusal at
+  stays-refused stays found other = stays (rw found other) ∙ found
+
+  pub stays-checked : (s : Bool) {t : Bool} (refusal : Refusal) (at : ℕ) → Of refusal → (s ≡ true → t ≡ true) → Stays (checked s refusal at) (checked t refusal at)
+  unfolding checked
+  stays-checked true refusal at is more stays = rw (more refl)
+  stays-checked false refusal at is more stays = absurd (stays is)
+
+  pub stays-then : (a : Answer) {a' b b' : Answer} → Stays a a' → Stays b b' → Stays (a then b) (a' then b')
+  unfolding _then_
+  stays-then Accepted first second stays = rw (first tt) (second stays)
+  stays-then (Refused refusal at) first second stays = rw (first stays)
+
+  pub stays-first : (n : ℕ) (f g : ℕ → Answer) → ((k : ℕ) → Stays (f k) (g k)) → Stays (firstOf n f) (firstOf n g)
+  unfolding firstOf foundOf
+  stays-first zero f g each stays = refl
+  stays-first (suc n) f g each stays = stays-then (firstOf n f) (stays-first n f g each) (each n) stays

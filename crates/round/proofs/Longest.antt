@@ -1,20 +1,22 @@
 -- The longest image is attained: a table with as many transactions, tasks and modes as the limits allow is accepted, and its
 -- image has all the bytes that an accepted one may have.
 use mathlib.Core.Path.{_≡_, refl, ap, _∙_}
-use Prim.Native.Nat.{ℕ}
+use Prim.Native.Nat.{ℕ, _+_, _/_, _<_}
+use native.Mathlib.Nat.{lt-of-lt-of-le}
 use native.Mathlib.Omega.{arith}
 use lib.Dec.{lit<, lit≤}
 use lib.ListN.{length}
 use Rattle.table.specs.Sum.{sum}
 use Rattle.table.specs.Lists.{listOf}
-use Rattle.table.specs.Limits.{modesMost}
+use Rattle.table.specs.Limits.{transactionsMost, modesMost, tasksInAll}
 use Rattle.table.specs.Table.{transactions, transaction, modes, tasks, noTask, noTransaction}
 use Rattle.table.specs.Number.{before, inAll}
 use Rattle.table.specs.Kept.{Kept, KeptTransaction, KeptTask}
-use Rattle.table.proofs.Lists.{getD-listOf}
+use Rattle.table.proofs.Lists.{length-listOf, getD-listOf}
 use Rattle.table.proofs.Accepted.{kept-timed}
 use Rattle.format.specs.Places.{bytesTo, longestImage}
 use Rattle.format.specs.Fault.{IsAccepted}
+use Rattle.format.proofs.Reach.{bitsMost}
 use Rattle.format.specs.Image.{imageOf}
 use Rattle.format.specs.Write.{startOf}
 use Rattle.round.specs.Fullest.{fullestTask, fullestTransaction, fullest}
@@ -36,17 +38,19 @@ full-task =
       runs = record { mode = 0; within = lit< tt; some = lit< tt };
     }
 
-full-transaction : KeptTransaction 1 fullestTransaction
+full-transaction : (u : ℕ) → u < transactionsMost → KeptTransaction 1 (fullestTransaction u)
 unfolding fullestTransaction listOf
-full-transaction =
+full-transaction u h =
+    let many : ℕ = (tasksInAll + u) / transactionsMost in
+    let there : length (listOf many (λ j. fullestTask)) ≡ many = length-listOf many (λ j. fullestTask) in
     record {
       period = lit≤ tt;
       divides = refl;
       someMode = lit≤ tt;
       fewModes = lit≤ tt;
-      someTask = lit≤ tt;
-      fewTasks = lit≤ tt;
-      each = λ j h. rw (getD-listOf _ (λ i. fullestTask) j noTask h) full-task;
+      someTask = omega (arith, there);
+      fewTasks = omega (arith, there);
+      each = λ j l. rw (getD-listOf many (λ i. fullestTask) j noTask (omega (arith, there))) full-task;
     }
 
 full-kept : Kept fullest
@@ -59,10 +63,10 @@ full-kept =
       someTransaction = lit≤ tt;
       fewTransactions = lit≤ tt;
       fewTasks = lit≤ tt;
-      each = λ u h. rw (getD-listOf _ (λ v. fullestTransaction) u noTransaction h) full-transaction;
+      each = λ u h. rw (getD-listOf _ fullestTransaction u noTransaction h) (full-transaction u (lt-of-lt-of-le h (lit≤ tt)));
     }
 
-full-end : startOf fullest (transactions fullest) ≡ 20_162
+full-end : startOf fullest (transactions fullest) ≡ bitsMost
 unfolding fullest fullestTransaction transactions transaction modes tasks startOf listOf
 full-end = refl
 

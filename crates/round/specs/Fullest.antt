@@ -1,5 +1,5 @@
 -- A table as full as one may be: every transaction and every task that the limits allow, and every mode.
-use Prim.Native.Nat.{ℕ, _/_}
+use Prim.Native.Nat.{ℕ, _+_, _/_}
 use Rattle.table.specs.Table.{Task, Transaction, Table}
 use Rattle.table.specs.Limits.{editionKnown, transactionsMost, modesMost, tasksInAll}
 use Rattle.table.specs.Lists.{listOf}
@@ -7,8 +7,9 @@ use Rattle.table.specs.Lists.{listOf}
 unfoldable pub fullestTask : Task
 fullestTask = record { offset = 0; jitter = 0; blocking = 0; deadline = 1; priority = 0; times = listOf modesMost (λ m. 1) }
 
-unfoldable pub fullestTransaction : Transaction
-fullestTransaction = record { period = 1; modes = modesMost; tasks = listOf (tasksInAll / transactionsMost) (λ j. fullestTask) }
+-- the tasks are shared out evenly
+unfoldable pub fullestTransaction : (u : ℕ) → Transaction
+fullestTransaction u = record { period = 1; modes = modesMost; tasks = listOf ((tasksInAll + u) / transactionsMost) (λ j. fullestTask) }
 
 unfoldable pub fullest : Table
-fullest = record { edition = editionKnown; frame = 1; transactions = listOf transactionsMost (λ u. fullestTransaction) }
+fullest = record { edition = editionKnown; frame = 1; transactions = listOf transactionsMost fullestTransaction }

@@ -17,9 +17,9 @@ impl Table {
 
     pub const HORIZON: u32 = 16_777_215;
 
-    pub const TRANSACTIONS: usize = 32;
+    pub const TRANSACTIONS: usize = 63;
 
-    pub const TASKS: usize = 64;
+    pub const TASKS: usize = 128;
 
     pub const EDITION_WIDTH: usize = 4;
 

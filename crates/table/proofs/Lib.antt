@@ -3,5 +3,6 @@ pub mod Lists
 pub mod Number
 pub mod Ranges
 pub mod Rules
+pub mod Raised
 pub mod Accepted
 pub mod Kept

@@ -7,7 +7,7 @@ use native.Mathlib.Decide.{decLt}
 use native.Mathlib.Numerals.{add-one}
 use native.Mathlib.Omega.{arith}
 use lib.ListN.{length, getD, drop, set, replicate, length-append, length-set, length-replicate, replicate-append-replicate, List·getD-append, List·getD-eq-default}
-use lib.Seq.{sets, sets-eq, set-set, take-append-seam, drop-append-add, getD-append-add}
+use lib.Seq.{sets, sets-eq, set-set, set-append-left, take-append-seam, drop-append-add, getD-append-add}
 use Rattle.table.specs.Lists.{listOf, joined, padded}
 
 -- ---- lists by their index
@@ -118,6 +118,13 @@ sets-within (v ∷ vs) row l j i h =
     rw (set-within row l j i v (omega arith), ← add-suc j i)
     (sets-within vs (set row i v) l j (suc i) (rw (length-set row i v) (omega arith)))
 
+-- stores into the first of two lists leave the second
+pub sets-first : (vs xs ys : List ℕ) (i : ℕ) → i + length vs ≤ length xs → sets (xs ++ ys) i vs ≡ sets xs i vs ++ ys
+sets-first [] xs ys i h = refl
+sets-first (v ∷ vs) xs ys i h =
+    rw (set-append-left xs ys i v (omega arith))
+    (sets-first vs (set xs i v) ys (suc i) (rw (length-set xs i v) (omega arith)))
+
 pub listOf-zeros : (n : ℕ) → listOf {A = ℕ} n (λ k. 0) ≡ replicate n 0
 unfolding listOf
 listOf-zeros zero = refl
@@ -129,7 +136,7 @@ pub length-padded : (n : ℕ) (l : List ℕ) → length l ≤ n → length (padd
 unfolding padded
 length-padded n l h = rw (length-append, length-replicate) (omega arith)
 
-zeros : (n i : ℕ) → getD (replicate {A = ℕ} n 0) i 0 ≡ 0
+pub zeros : (n i : ℕ) → getD (replicate {A = ℕ} n 0) i 0 ≡ 0
 zeros zero i = refl
 zeros (suc n) zero = refl
 zeros (suc n) (suc i) = zeros n i

@@ -4,6 +4,7 @@ pub mod Table
 pub mod Limits
 pub mod Fields
 pub mod Rules
+pub mod Raised
 pub mod Kept
 pub mod Number
 pub mod Computing

@@ -9,7 +9,7 @@ abbrev pub frameMost : ℕ
 frameMost = 16_777_215
 
 abbrev pub transactionsMost : ℕ
-transactionsMost = 32
+transactionsMost = 63
 
 abbrev pub modesMost : ℕ
 modesMost = 8
@@ -19,7 +19,7 @@ abbrev pub tasksMost : ℕ
 tasksMost = 16
 
 abbrev pub tasksInAll : ℕ
-tasksInAll = 64
+tasksInAll = 128
 
 -- the limits that a table's rules take, and document 01's
 pub record Limits : Type 0 where

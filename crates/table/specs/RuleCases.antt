@@ -13,6 +13,7 @@ use Rattle.table.specs.Limits.{Limits, limits}
 use Rattle.table.specs.Lists.{listOf}
 use Rattle.table.specs.Fields.{HeaderField, HeadField, TaskField, Field, numberIn}
 use Rattle.table.specs.Rules.{tableRules}
+use Rattle.table.specs.Raised.{limitsBefore}
 use Rattle.table.specs.Computing.{computing}
 use Rattle.table.specs.Sample.{S, task, transaction, table}
 
@@ -79,10 +80,15 @@ unfolding computing
 frame = refl
 
 count :
-    found (transactionsOf 0) 2 ∷ map (λ n. found (transactionsOf n) 3) (0 ∷ 1 ∷ 32 ∷ 33 ∷ [])
+    found (transactionsOf 0) 2 ∷ map (λ n. found (transactionsOf n) 3) (0 ∷ 1 ∷ 63 ∷ 64 ∷ [])
     ≡ Refused EndsInside 2 ∷ Refused TransactionCount 2 ∷ Refused EndsInside 100 ∷ Refused EndsInside 100 ∷ Refused TransactionCount 2 ∷ []
 unfolding computing
 count = refl
+
+-- under document 01's limits 33 were too many
+count-before : map (λ n. foundUnder limitsBefore (transactionsOf n) 3) (32 ∷ 33 ∷ []) ∷ map (λ n. found (transactionsOf n) 3) (33 ∷ []) ∷ [] ≡ (Refused EndsInside 100 ∷ Refused TransactionCount 2 ∷ []) ∷ (Refused EndsInside 100 ∷ []) ∷ []
+unfolding computing
+count-before = refl
 
 period :
     found (with 20 0 0 []) 100 ∷ map (λ T. found (with 20 T 0 []) 101) (0 ∷ 1 ∷ 3 ∷ 10 ∷ 20 ∷ 40 ∷ [])
@@ -109,7 +115,7 @@ sum-so-far :
 unfolding computing
 sum-so-far = refl
 
-most-tasks : limits .inAll ≡ 64
+most-tasks : limits .inAll ≡ 128
 most-tasks = refl
 
 deadline :

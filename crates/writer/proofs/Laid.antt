@@ -18,7 +18,7 @@ use Rattle.table.proofs.Sum.{sum-next}
 use Rattle.table.proofs.Number.{before-suc, before-grow}
 use Rattle.table.specs.Lists.{listOf, joined}
 use Rattle.table.proofs.Lists.{length-listOf, length-joined, joined-same}
-use Rattle.format.specs.Places.{firstAt, taskWidth}
+use Rattle.format.specs.Places.{firstAt, headWidth, taskWidth}
 use Rattle.format.specs.Image.{taskBits, transactionBits, tableBits}
 use Rattle.format.specs.Write.{startOf}
 use Rattle.format.proofs.Round.{listed-joined}
@@ -108,6 +108,10 @@ module _ (row : List ℕ) where
 
 -- ---- a row whose table no rule refuses: the counts of transaction u are small, and it starts not far from the image's first bit
 
+-- the bits of the widest transaction
+abbrev pub transactionWidth : ℕ
+transactionWidth = headWidth + tasksMost * taskWidth modesMost
+
 pub record Few (row : List ℕ) (u : ℕ) : Type 0 where
   pub transactions : u < transactionsMost
   pub modes : headCell row u modesCell ≤ modesMost
@@ -129,14 +133,13 @@ module _ (row : List ℕ) (kept : Kept (tableOf row)) where
         inAll = rw (tasksIs, ← held-before row u (omega arith)) (omega (arith, kept .fewTasks, before-suc (tableOf row) u, before-grow (tableOf row) h));
       }
 
-  -- the widest task has 298 bits
-  pub near : (u : ℕ) → u ≤ transactions (tableOf row) → startOf (tableOf row) u ≤ 34 + u * 4801
+  pub near : (u : ℕ) → u ≤ transactions (tableOf row) → startOf (tableOf row) u ≤ firstAt + u * transactionWidth
   unfolding startOf modes tasks
   near zero h = omega arith
   near (suc u) h =
       let x = kept .each u h in
-      let wide : tasks (tableOf row) u * taskWidth (modes (tableOf row) u) ≤ 16 * 298 =
-      (let narrow : taskWidth (modes (tableOf row) u) ≤ 298 = omega (arith, x .fewModes) in mul-le-mul (x .fewTasks) narrow) in
+      let wide : tasks (tableOf row) u * taskWidth (modes (tableOf row) u) ≤ tasksMost * taskWidth modesMost =
+      (let narrow : taskWidth (modes (tableOf row) u) ≤ taskWidth modesMost = omega (arith, x .fewModes) in mul-le-mul (x .fewTasks) narrow) in
       omega (arith, near u (omega arith), wide)
 
   -- the transactions that are put end where the next one starts

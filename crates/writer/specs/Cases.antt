@@ -2,7 +2,7 @@
 -- task's time of 3 in the cell of a row.
 use mathlib.Core.Path.{_≡_, refl}
 use mathlib.Core.List.{List, [], _∷_, _++_, map}
-use Prim.Native.Nat.{ℕ}
+use Prim.Native.Nat.{ℕ, _+_}
 use native.Mathlib.Omega.{arith}
 use lib.Dec.{lit<, lit≤}
 use lib.ListN.{length, replicate}
@@ -16,7 +16,7 @@ use Rattle.format.specs.Image.{taskBits, transactionBits, tableBits, numberOf, 
 use Rattle.format.specs.Write.{startOf, tableFault, writeFault}
 use Rattle.writer.specs.declared.Writing.{Writing}
 use Rattle.writer.specs.declared.Writing.the-variants.{Written, Refused}
-use Rattle.row.specs.Row.{bodyCell, timeCell}
+use Rattle.row.specs.Row.{taskCell, timesCell, bodyCell, timeCell}
 use Rattle.writer.specs.Scan.{TimesSound}
 use Rattle.writer.specs.Write.{answered, holding}
 
@@ -48,7 +48,7 @@ buffers = refl
 
 -- a row whose first task has that time in its first mode
 abbrev timed : ℕ → List ℕ
-timed C = replicate 171 0 ++ (C ∷ [])
+timed C = replicate (taskCell 0 + timesCell) 0 ++ (C ∷ [])
 
 runs : TimesSound (timed 3) 1 0
 unfolding timeCell bodyCell sum

@@ -8,15 +8,21 @@ use Rattle.refusals.specs.declared.Answer.the-variants.{Refused}
 use Rattle.format.specs.Fault.{imageFault, IsAccepted}
 use Rattle.parts.specs.Parts.{OfImage, OfTask, MadeFor}
 use Rattle.parts.specs.declared.Made.the-variants as made
-use Rattle.answers.proofs.Read.{read-table, read-lent}
+use Rattle.answers.proofs.Read.{read-fault, read-table, read-lent}
 use Rattle.answers.proofs.parts.Statement.{statement}
 use Rattle.answers.proofs.parts.Tie as tie
 
-read-requires : tie.Need-read-requires
-read-requires c κs = search needs
+abbrev start : tie.After-read-in-front → tie.Start
+start c = c .before .before .before
 
-enum-known-answer : tie.Need-enum-known-answer
-enum-known-answer c = search needs
+slice-aggregate-read-in-front : tie.Need-slice-aggregate-read-in-front
+slice-aggregate-read-in-front c = search needs
+
+read-in-front-requires : tie.Need-read-in-front-requires
+read-in-front-requires c κs = search needs
+
+enum-known-refusal : tie.Need-enum-known-refusal
+enum-known-refusal c = search needs
 
 enum-told : tie.Need-enum-told
 enum-told c = search needs
@@ -26,30 +32,30 @@ index-requires c κs = search needs
 
 -- the answer of reading, by the way that the match goes
 refused :
-    (c : tie.After-answer)
-    → imageFault (now (c .before .before .before .before .args .image)) ≡ Refused (c .answer .given .0 .0) (c .answer .given .0 .1 .0)
-refused c = sym (c .before .before .read .ensures .0) ∙ c .answer .given .1
+    (c : tie.After-refusal)
+    → imageFault (now (start (c .before .before .before) .args .image)) ≡ Refused (c .refusal .given .0 .0) (c .refusal .given .0 .1 .0)
+refused c = sym (read-fault _) ∙ sym (c .before .before .before .read-in-front .ensures .0) ∙ c .refusal .given .1
 
-accepted : (c : tie.After-enum-told) → IsAccepted (now (c .before .before .before .before .args .image))
-accepted c = sym (c .before .before .read .ensures .0) ∙ c .enum-told .given .1
+accepted : (c : tie.After-enum-told) → IsAccepted (now (start (c .before .before .before) .args .image))
+accepted c = sym (read-fault _) ∙ sym (c .before .before .before .read-in-front .ensures .0) ∙ c .enum-told .given .1
 
 parts-from-requires : tie.Need-parts-from-requires
 parts-from-requires c κs =
-    let x = c .before .before .before in
-    let y = x .before .before in
-    read-lent (now (y .before .before .args .image)) (y .read .result .table .cells) (accepted x) (y .read .ensures .1)
+    let x = c .before .before in
+    let f = x .before .before .before in
+    read-lent (now (start f .args .image)) (f .read-in-front .last .1 .0) (accepted x) (f .read-in-front .ensures .1)
 
 returns : tie.Need-returns
 returns c = OfImage.refused (refused (c .before))
 
 returns-2 : tie.Need-returns-2
 returns-2 c =
-    let x = c .before .before .before .before in
-    let y = x .before .before in
-    let s = y .before .before .args in
+    let x = c .before .before .before in
+    let f = x .before .before .before in
+    let a = start f .args in
     OfImage.accepted (accepted x)
-    (subst₂ (λ (tab : Table) (k : ℕ). OfTask made.Refused (MadeFor (s .budget)) k tab (c .parts-from .result))
-    (read-table (now (s .image)) (y .read .result .table .cells) (accepted x) (y .read .ensures .1))
+    (subst₂ (λ (tab : Table) (k : ℕ). OfTask made.Refused (MadeFor (a .budget)) k tab (c .parts-from .result))
+    (read-table (now (a .image)) (f .read-in-front .last .1 .0) (accepted x) (f .read-in-front .ensures .1))
     (c .before .index .ensures)
     (c .parts-from .ensures))
 
@@ -57,8 +63,9 @@ pub parts-spec : {M : Type 1} → statement M
 parts-spec =
     tie.close
     (tie.spec
-    read-requires
-    enum-known-answer
+    slice-aggregate-read-in-front
+    read-in-front-requires
+    enum-known-refusal
     enum-told
     index-requires
     parts-from-requires

@@ -5,36 +5,41 @@ use denote.Ref.{now}
 use borrow.Author.Needs.{needs}
 use Rattle.table.specs.Table.{Table}
 use Rattle.refusals.specs.declared.Answer.the-variants.{Refused}
-use Rattle.format.specs.Fault.{imageFault}
-use Rattle.format.specs.Fault.{IsAccepted}
+use Rattle.format.specs.Fault.{imageFault, IsAccepted}
 use Rattle.told.specs.Told.{RespondsFrom, Responds}
 use Rattle.told.proofs.Told.{place-small}
-use Rattle.answers.proofs.Read.{read-table, read-lent}
+use Rattle.answers.proofs.Read.{read-fault, read-table, read-lent}
 use Rattle.answers.proofs.response.Statement.{statement}
 use Rattle.answers.proofs.response.Tie as tie
 
-read-requires : tie.Need-read-requires
-read-requires c κs = search needs
+abbrev start : tie.After-read-in-front → tie.Start
+start c = c .before .before .before
 
-enum-known-answer : tie.Need-enum-known-answer
-enum-known-answer c = search needs
+slice-aggregate-read-in-front : tie.Need-slice-aggregate-read-in-front
+slice-aggregate-read-in-front c = search needs
+
+read-in-front-requires : tie.Need-read-in-front-requires
+read-in-front-requires c κs = search needs
+
+enum-known-refusal : tie.Need-enum-known-refusal
+enum-known-refusal c = search needs
 
 number-requires : tie.Need-number-requires
 number-requires c κs = search needs
 
 -- the answer of reading, by the way that the match goes
 refused :
-    (c : tie.After-answer)
-    → imageFault (now (c .before .before .before .before .args .image)) ≡ Refused (c .answer .given .0 .0) (c .answer .given .0 .1 .0)
-refused c = sym (c .before .before .read .ensures .0) ∙ c .answer .given .1
+    (c : tie.After-refusal)
+    → imageFault (now (start (c .before .before .before) .args .image)) ≡ Refused (c .refusal .given .0 .0) (c .refusal .given .0 .1 .0)
+refused c = sym (read-fault _) ∙ sym (c .before .before .before .read-in-front .ensures .0) ∙ c .refusal .given .1
 
-accepted : (c : tie.After-enum-told) → IsAccepted (now (c .before .before .before .before .args .image))
-accepted c = sym (c .before .before .read .ensures .0) ∙ c .enum-told .given .1
+accepted : (c : tie.After-enum-told) → IsAccepted (now (start (c .before .before .before) .args .image))
+accepted c = sym (read-fault _) ∙ sym (c .before .before .before .read-in-front .ensures .0) ∙ c .enum-told .given .1
 
 cast-pair : tie.Need-cast-pair
 cast-pair c =
     let x = c .before .before in
-    record { fits = place-small (now (x .before .before .before .before .args .image)) (refused x) }
+    record { fits = place-small (now (start (x .before .before .before) .args .image)) (refused x) }
 
 pair-requires : tie.Need-pair-requires
 pair-requires c κs = search needs
@@ -47,21 +52,21 @@ index-requires c κs = search needs
 
 response-of-requires : tie.Need-response-of-requires
 response-of-requires c κs =
-    let x = c .before .before .before in
-    let y = x .before .before in
-    read-lent (now (y .before .before .args .image)) (y .read .result .table .cells) (accepted x) (y .read .ensures .1)
+    let x = c .before .before in
+    let f = x .before .before .before in
+    read-lent (now (start f .args .image)) (f .read-in-front .last .1 .0) (accepted x) (f .read-in-front .ensures .1)
 
 returns : tie.Need-returns
 returns c = rw (c .pair .ensures, c .before .number .ensures) (Responds.refused (refused (c .before .before .before)))
 
 returns-2 : tie.Need-returns-2
 returns-2 c =
-    let x = c .before .before .before .before in
-    let y = x .before .before in
-    let s = y .before .before .args in
+    let x = c .before .before .before in
+    let f = x .before .before .before in
+    let a = start f .args in
     Responds.accepted (accepted x)
-    (subst₂ (λ (tab : Table) (k : ℕ). RespondsFrom tab k (s .budget) (c .response-of .result))
-    (read-table (now (s .image)) (y .read .result .table .cells) (accepted x) (y .read .ensures .1))
+    (subst₂ (λ (tab : Table) (k : ℕ). RespondsFrom tab k (a .budget) (c .response-of .result))
+    (read-table (now (a .image)) (f .read-in-front .last .1 .0) (accepted x) (f .read-in-front .ensures .1))
     (c .before .index .ensures)
     (c .response-of .ensures))
 
@@ -69,8 +74,9 @@ pub response-spec : {M : Type 1} → statement M
 response-spec =
     tie.close
     (tie.spec
-    read-requires
-    enum-known-answer
+    slice-aggregate-read-in-front
+    read-in-front-requires
+    enum-known-refusal
     number-requires
     cast-pair
     pair-requires

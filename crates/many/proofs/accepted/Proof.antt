@@ -1,5 +1,6 @@
 -- `many::accepted` ends: each turn leaves fewer cells. What is made of the line lies in it.
 use borrow.Author.Needs.{needs}
+use mathlib.Core.Path.{_≡_}
 use lib.ListN.{length}
 use Prim.Native.Nat.{_-_, _*_, _≤_}
 use Rattle.table.specs.Limits.{tasksInAll}
@@ -8,13 +9,10 @@ use Rattle.many.proofs.accepted.Statement.{statement}
 use Rattle.many.proofs.accepted.Tie as tie
 
 abbrev Inv-loop : tie.InvT-loop
-Inv-loop cells tasks line₀ at₀ k₀ k-end line at k = (k-end ≤ cellsOfTask * tasksInAll) × (at ≤ length line)
+Inv-loop line₀ cells tasks at₀ k₀ k-end line at k = (k-end ≤ cellsOfTask * tasksInAll) × (at ≤ length line) × (length line ≡ length line₀)
 
 abbrev μ-loop : tie.MeasureT-loop
-μ-loop cells tasks line₀ at₀ k₀ k-end line at k = k-end - k
-
-slice-aggregate-line : tie.Need-slice-aggregate-line Inv-loop μ-loop
-slice-aggregate-line c = search needs
+μ-loop line₀ cells tasks at₀ k₀ k-end line at k = k-end - k
 
 slice-aggregate-word : tie.Need-slice-aggregate-word Inv-loop μ-loop
 slice-aggregate-word c = search needs
@@ -52,6 +50,9 @@ loop-again c = search needs
 write-requires : tie.Need-write-requires Inv-loop μ-loop
 write-requires c κs = search needs
 
+same-length : tie.Need-same-length Inv-loop μ-loop
+same-length c = search needs
+
 returns : tie.Need-returns Inv-loop μ-loop
 returns c = search needs
 
@@ -61,7 +62,6 @@ accepted-spec =
     (tie.spec
     Inv-loop
     μ-loop
-    slice-aggregate-line
     slice-aggregate-word
     word-requires
     cells-of-requires
@@ -74,4 +74,5 @@ accepted-spec =
     loop-less
     loop-again
     write-requires
+    same-length
     returns)

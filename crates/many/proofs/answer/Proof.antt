@@ -12,9 +12,6 @@ returns c = search needs
 slice-aggregate-image : tie.Need-slice-aggregate-image
 slice-aggregate-image c = sym (length-take-le _ _ (omega arith))
 
-slice-aggregate-cells : tie.Need-slice-aggregate-cells
-slice-aggregate-cells c = search needs
-
 cells-requires : tie.Need-cells-requires
 cells-requires c κs = search needs
 
@@ -30,8 +27,14 @@ enum-told c = search needs
 refused-requires : tie.Need-refused-requires
 refused-requires c κs = search needs
 
+same-length : tie.Need-same-length
+same-length c = search needs
+
 returns-2 : tie.Need-returns-2
 returns-2 c = search needs
+
+same-length-2 : tie.Need-same-length-2
+same-length-2 c = search needs
 
 returns-3 : tie.Need-returns-3
 returns-3 c = search needs
@@ -42,11 +45,12 @@ answer-spec =
     (tie.spec
     returns
     slice-aggregate-image
-    slice-aggregate-cells
     cells-requires
     enum-known-told
     accepted-requires
     enum-told
     refused-requires
+    same-length
     returns-2
+    same-length-2
     returns-3)

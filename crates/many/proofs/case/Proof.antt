@@ -75,6 +75,9 @@ answer-requires c κs = search needs
 same-length-2 : tie.Need-same-length-2
 same-length-2 c = search needs
 
+same-length-3 : tie.Need-same-length-3
+same-length-3 c = search needs
+
 returns-4 : tie.Need-returns-4
 returns-4 c = search needs
 
@@ -105,4 +108,5 @@ case-spec =
     returns-3
     answer-requires
     same-length-2
+    same-length-3
     returns-4)

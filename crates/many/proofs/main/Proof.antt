@@ -1,15 +1,22 @@
 -- `many::main` ends: each case leaves one fewer to take, and the end of the input leaves none.
 use borrow.Author.Needs.{needs}
 use mathlib.Core.Path.{_≡_}
+use Prim.Native.Nat.{ℕ, _+_, _*_}
 use lib.ListN.{length}
+use Rattle.table.specs.Limits.{tasksInAll}
+use Rattle.told.specs.Cells.{cellsOfTask}
 use Rattle.many.proofs.main.Statement.{statement}
 use Rattle.many.proofs.main.Tie as tie
 
+-- `accepted`, 11 bytes for each cell, and the end of the line
+abbrev lineBytes : ℕ
+lineBytes = 8 + 11 * (cellsOfTask * tasksInAll) + 1
+
 abbrev Inv-loop : tie.InvT-loop
-Inv-loop image₀ left₀ image left = length image ≡ 65536
+Inv-loop image₀ cells₀ line₀ left₀ image cells line left = (length image ≡ 65536) × (length line ≡ lineBytes)
 
 abbrev μ-loop : tie.MeasureT-loop
-μ-loop image₀ left₀ image left = left
+μ-loop image₀ cells₀ line₀ left₀ image cells line left = left
 
 large-buffer-requires : tie.Need-large-buffer-requires Inv-loop μ-loop
 large-buffer-requires c κs = search needs
@@ -19,6 +26,9 @@ loop-holds c = search needs
 
 slice-aggregate-case : tie.Need-slice-aggregate-case Inv-loop μ-loop
 slice-aggregate-case c = search needs
+
+slice-aggregate-case-2 : tie.Need-slice-aggregate-case-2 Inv-loop μ-loop
+slice-aggregate-case-2 c = search needs
 
 case-requires : tie.Need-case-requires Inv-loop μ-loop
 case-requires c κs = search needs
@@ -50,6 +60,7 @@ main-spec =
     large-buffer-requires
     loop-holds
     slice-aggregate-case
+    slice-aggregate-case-2
     case-requires
     sub-left
     loop-less

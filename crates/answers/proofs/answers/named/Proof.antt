@@ -1,4 +1,4 @@
--- `named` meets its contract: a candidate's number fits a cell since no table has more than 64 tasks.
+-- `named` meets its contract: a candidate's number fits a cell since no table has that many tasks.
 use borrow.Author.Needs.{needs}
 use native.Mathlib.Omega.{arith}
 use denote.Ref.{now}

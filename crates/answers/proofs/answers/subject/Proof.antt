@@ -10,24 +10,21 @@ task-requires : tie.Need-task-requires
 task-requires c κs = search needs
 
 weigh-requires : tie.Need-weigh-requires
-weigh-requires c κs =
-    let t = c .before in
-    let (isRow, (lent, (table, inside))) = t .before .pre in
-    (lent, subst (λ (x : Table). Chosen x (t .task .result)) (sym table) (t .task .ensures .chosen))
+weigh-requires c κs = search needs
 
 link-requires : tie.Need-link-requires
 link-requires c κs =
     let w = c .before in
     let t = w .before .before in
     let (lent, (table, weighs)) = w .weigh .ensures in
-    (lent, (subst (λ (x : Table). Chosen x (t .task .result)) (sym (table ∙ t .before .pre .1 .1 .0)) (t .task .ensures .chosen), weighs))
+    (lent, (subst (λ (x : Table). Chosen x (t .task .result)) (sym table) (t .task .ensures .chosen), weighs))
 
 returns : tie.Need-returns
 returns c =
     let w = c .before .before in
     let t = w .before .before in
     let (lent, (table, subject)) = c .link .ensures in
-    (t .task .ensures, (lent, (table ∙ w .weigh .ensures .1 .0 ∙ t .before .pre .1 .1 .0, subject)))
+    (t .task .ensures, (lent, (table ∙ w .weigh .ensures .1 .0, subject)))
 
 pub subject-spec : {M : Type 1} → statement M
 subject-spec = tie.close (tie.spec task-requires weigh-requires link-requires returns)

@@ -2,7 +2,8 @@
 use mathlib.Core.Path.{_≡_, sym, ap, ap₂, _∙_, subst}
 use denote.Ref.{now}
 use borrow.Author.Needs.{needs}
-use Rattle.table.specs.Table.{Table, deadline}
+use Rattle.table.specs.Table.{Table, IsTask, deadline}
+use Rattle.table.specs.Number.{number}
 use Rattle.row.specs.Row.{tableOf}
 use Rattle.row.proofs.Fields.{read-deadline}
 use Rattle.periods.specs.Charge.{imposed}
@@ -28,28 +29,30 @@ cells-requires c κs = search needs
 
 returns : tie.Need-returns
 returns c =
-    let y = c .before .before .before in
+    let y = c .before .before .before .before in
     let l = y .before .before in
     let x = l .before .before in
     let s = l .subject .result in
-    let tab = tableOf (now (x .args .table)) in
+    let tab = tableOf (now (x .args .work)) in
     let budget = x .args .budget in
     let (named, (lent, (table, subject))) = l .subject .ensures in
+    let due : c .before .deadline .result ≡ deadline tab (s .u) (s .a) =
+    c .before .deadline .ensures
+    ∙ rw (← (named .numbered), ← table)
+    (read-deadline (lent .table) (subst (λ (z : Table). IsTask z (s .u) (s .a)) (sym table) (named .chosen .isTask))) in
     let is : cellsMeant (c .cells .result) ≡ cells (deadline tab (s .u) (s .a)) (answer imposed tab (s .u) (s .a) budget) =
     c .cells .ensures
-    ∙ ap₂ cells (c .before .deadline .ensures ∙ rw (← (named .numbered)) (read-deadline (x .pre .0) (named .chosen .isTask)))
-    (y .answer .ensures ∙ ap (λ (z : Table). answer imposed z (s .u) (s .a) budget) table) in (
+    ∙ ap₂ cells due (y .answer .ensures ∙ ap (λ (z : Table). answer imposed z (s .u) (s .a) budget) table) in (
       record {
         u = s .u;
         a = s .a;
         isTask = named .chosen .isTask;
         numbered = named .numbered;
-        owed = subst (Owed tab (s .u) (s .a) budget) (sym is) (owed (x .pre .0 .kept) (named .chosen .isTask) budget);
+        owed = subst (Owed tab (s .u) (s .a) budget) (sym is) (owed (x .pre .0 .table .kept) (named .chosen .isTask) budget);
       },
       (lent, table),
     )
 
 pub task-cells-spec : {M : Type 1} → statement M
 task-cells-spec =
-    tie.close
-    (tie.spec subject-requires answer-requires deadline-requires cells-requires returns)
+    tie.close (tie.spec subject-requires answer-requires deadline-requires cells-requires returns)

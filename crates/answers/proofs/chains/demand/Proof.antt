@@ -3,7 +3,7 @@ use mathlib.Core.Path.{ap₂, sym, _∙_}
 use Prim.Native.Nat.{ℕ, _+_}
 use native.Mathlib.Omega.{arith}
 use Rattle.analysis.proofs.Join.{demand-rivals}
-use Rattle.charge.proofs.Ranges.{rivals-lt}
+use Rattle.charge.proofs.Ranges.{rivals-le}
 use Rattle.answers.proofs.Instants.{instant-first, instant-blocking, instant-time, instant-candidate, instant-start, start-le}
 use Rattle.answers.proofs.chains.demand.Statement.{statement}
 use Rattle.answers.proofs.chains.demand.Tie as tie
@@ -27,7 +27,7 @@ add-t9 c =
       c .before .before .before .start .ensures,
       start-le (lent .table .kept) (subject .chosen .isTask) turn (a .p .0) near,
       c .before .before .rivals .ensures,
-      rivals-lt (lent .table .kept) (a .whole) short (a .s .u) (a .s .a) (subject .chosen .isTask .owner) (turn .setting .mode) (a .x .candidate),
+      rivals-le (lent .table .kept) (a .whole) short (a .s .u) (a .s .a) (subject .chosen .isTask .owner) (turn .setting .mode) (a .x .candidate),
     )
 
 returns : tie.Need-returns

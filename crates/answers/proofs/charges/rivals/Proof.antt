@@ -11,7 +11,7 @@ use Rattle.table.specs.Table.{transactions}
 use Rattle.analysis.specs.Charge.{others, rivals}
 use Rattle.charge.specs.Links.{NextOther}
 use Rattle.answers.specs.Work.{othersCell}
-use Rattle.charge.proofs.Ranges.{rivals-lt}
+use Rattle.charge.proofs.Ranges.{rivals-le}
 use Rattle.charge.proofs.Along.{Others, others-first, others-few, others-next}
 use Rattle.answers.proofs.charges.rivals.Statement.{statement}
 use Rattle.answers.proofs.charges.rivals.Tie as tie
@@ -111,7 +111,7 @@ returns c =
 add-t23 : tie.Need-add-t23 Inv-loop μ-loop
 add-t23 c =
     let s = c .before .before .before .before .before .before .before .before in
-    let few = rivals-lt (s .pre .0 .table .kept) (s .args .whole) (s .pre .1 .1 .1 .1) (s .args .s .u) (s .args .s .a) (s .pre .1 .1 .0 .owner) (s .pre .1 .1 .1 .0) in
+    let few = rivals-le (s .pre .0 .table .kept) (s .args .whole) (s .pre .1 .1 .1 .1) (s .args .s .u) (s .args .s .a) (s .pre .1 .1 .0 .owner) (s .pre .1 .1 .1 .0) in
     omega (arith, returns c, few (s .args .c))
 
 pub rivals-spec : {M : Type 1} → statement M

@@ -37,7 +37,7 @@ leaves x work same = weighs-same (x .pre .0) (x .pre .1 .1) work (same-less (ome
 transactions-requires : tie.Need-transactions-requires Inv-loop μ-loop
 transactions-requires c κs = tt
 
--- at most 32 transactions
+-- the transactions are few
 few : (y : tie.After-transactions Inv-loop μ-loop) → y .transactions .result ≤ transactionsMost
 few y = omega (arith, y .transactions .ensures, y .before .before .pre .0 .table .kept .fewTransactions)
 

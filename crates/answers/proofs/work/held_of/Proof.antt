@@ -22,12 +22,12 @@ phase-of-requires : tie.Need-phase-of-requires
 phase-of-requires c κs = search needs
 
 -- what was read
-waits : (c : tie.After-jitter) → let s = c .before .before .before .before in c .jitter .result ≡ jitter (tableOf (s .args .table .now)) (s .args .i) (s .args .j)
+waits : (c : tie.After-jitter) → let s = c .before .before .before .before in c .jitter .result ≡ jitter (tableOf (s .args .work .now)) (s .args .i) (s .args .j)
 waits c =
     let (table, (candidate, isTask)) = c .before .before .before .before .pre in
     c .jitter .ensures ∙ rw (c .before .number .ensures) (read-jitter table isTask)
 
-every : (c : tie.After-period) → let s = c .before .before .before .before .before .before .before in c .period .result ≡ period (tableOf (s .args .table .now)) (s .args .i)
+every : (c : tie.After-period) → let s = c .before .before .before .before .before .before .before in c .period .result ≡ period (tableOf (s .args .work .now)) (s .args .i)
 every c =
     let (table, (candidate, isTask)) = c .before .before .before .before .before .before .before .pre in
     c .period .ensures ∙ read-period table (isTask .owner)

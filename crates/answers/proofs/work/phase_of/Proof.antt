@@ -31,10 +31,10 @@ jitter-requires c κs = search needs
 
 -- what was read: the period, the offset of the task, and the offset and the jitter of the candidate
 record Read (s : tie.Start) (T O P J : ℕ) : Type 0 where
-  every : T ≡ period (tableOf (s .args .table .now)) (s .args .i)
-  from : O ≡ offset (tableOf (s .args .table .now)) (s .args .i) (s .args .j)
-  sets : P ≡ offset (tableOf (s .args .table .now)) (s .args .i) (s .args .c)
-  waits : J ≡ jitter (tableOf (s .args .table .now)) (s .args .i) (s .args .c)
+  every : T ≡ period (tableOf (s .args .work .now)) (s .args .i)
+  from : O ≡ offset (tableOf (s .args .work .now)) (s .args .i) (s .args .j)
+  sets : P ≡ offset (tableOf (s .args .work .now)) (s .args .i) (s .args .c)
+  waits : J ≡ jitter (tableOf (s .args .work .now)) (s .args .i) (s .args .c)
 
 read :
     (c : tie.After-jitter)

@@ -41,7 +41,7 @@ returns c =
     .1 in
     let priority =
     c .priority .ensures
-    ∙ ap (λ (n : ℕ). bodyCell (s .args .table .now) n priorityCell) (sym numbered)
+    ∙ ap (λ (n : ℕ). bodyCell (s .args .work .now) n priorityCell) (sym numbered)
     ∙ read-priority (s .pre .0) is in
     record { chosen = record { isTask = is; priority = priority }; numbered = numbered }
 

@@ -5,7 +5,7 @@ use Prim.Native.Nat.{ℕ, _-_, _≤_, zero-le}
 use native.Mathlib.Nat.{sub-zero}
 use native.Mathlib.Omega.{arith}
 use lib.ListN.{replicate}
-use lib.Seq.{sets}
+use lib.Seq.{sets, length-sets}
 use denote.Ref.{now}
 use Rattle.table.specs.Lists.{listOf, padded}
 use Rattle.table.proofs.Lists.{store-next, listOf-zeros}
@@ -32,8 +32,8 @@ add-cells c = omega arith
 mul-cells : tie.Need-mul-cells Inv-loop μ-loop
 mul-cells c = omega arith
 
-element-write-cells : tie.Need-element-write-cells Inv-loop μ-loop
-element-write-cells c = omega arith
+slice-write-cells : tie.Need-slice-write-cells Inv-loop μ-loop
+slice-write-cells c = rw (c .before .loop .inv .1, length-sets) (omega arith)
 
 add-k : tie.Need-add-k Inv-loop μ-loop
 add-k c = omega arith
@@ -46,6 +46,9 @@ loop-again c =
     let at-loop = c .before in
     let a = at-loop .before .args in
     (omega arith, rw (at-loop .loop .inv .1) (store-next (λ k. 0) (now (a .cells)) (a .from) (at-loop .loop .k)))
+
+same-length : tie.Need-same-length Inv-loop μ-loop
+same-length c = rw (c .before .loop .inv .1, length-sets)
 
 returns : tie.Need-returns Inv-loop μ-loop
 returns c =
@@ -61,8 +64,9 @@ clear-spec =
     loop-holds
     add-cells
     mul-cells
-    element-write-cells
+    slice-write-cells
     add-k
     loop-less
     loop-again
+    same-length
     returns)

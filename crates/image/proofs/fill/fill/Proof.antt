@@ -1,6 +1,9 @@
 -- `fill::fill` meets its contract: the transactions with their tasks, and the header last.
+use native.Mathlib.Omega.{arith}
+use lib.ListN.{length-set}
 use borrow.Author.Needs.{needs}
 use Rattle.image.specs.Fill.{filledOver}
+use Rattle.image.proofs.Cells.{length-transactions}
 use Rattle.image.proofs.fill.fill.Statement.{statement}
 use Rattle.image.proofs.fill.fill.Tie as tie
 
@@ -19,28 +22,32 @@ cast-put-transactions c = search needs
 put-transactions-requires : tie.Need-put-transactions-requires
 put-transactions-requires c κs = search needs
 
-element-write-cells : tie.Need-element-write-cells
-element-write-cells c = search needs
+slice-write-cells : tie.Need-slice-write-cells
+slice-write-cells c = rw (c .before .before .put-transactions .ensures .1, length-transactions) (omega arith)
 
-element-write-cells-2 : tie.Need-element-write-cells-2
-element-write-cells-2 c = search needs
+slice-write-cells-2 : tie.Need-slice-write-cells-2
+slice-write-cells-2 c = simp length-set (rw (c .before .before .put-transactions .ensures .1, length-transactions) (omega arith))
 
-element-write-cells-3 : tie.Need-element-write-cells-3
-element-write-cells-3 c = search needs
+slice-write-cells-3 : tie.Need-slice-write-cells-3
+slice-write-cells-3 c = simp length-set (rw (c .before .before .put-transactions .ensures .1, length-transactions) (omega arith))
 
-element-write-cells-4 : tie.Need-element-write-cells-4
-element-write-cells-4 c = search needs
+slice-write-cells-4 : tie.Need-slice-write-cells-4
+slice-write-cells-4 c = simp length-set (rw (c .before .before .put-transactions .ensures .1, length-transactions) (omega arith))
 
-element-write-cells-5 : tie.Need-element-write-cells-5
-element-write-cells-5 c = search needs
+slice-write-cells-5 : tie.Need-slice-write-cells-5
+slice-write-cells-5 c = simp length-set (rw (c .before .before .put-transactions .ensures .1, length-transactions) (omega arith))
+
+same-length : tie.Need-same-length
+same-length c = simp length-set (rw (c .before .before .put-transactions .ensures .1, length-transactions))
 
 returns : tie.Need-returns
 unfolding filledOver
 returns c =
-    let read = c .before .before in
+    let put = c .before .before in
+    let read = put .before .before in
     rw (
-      c .put-transactions .ensures .1,
-      c .put-transactions .ensures .0,
+      put .put-transactions .ensures .1,
+      put .put-transactions .ensures .0,
       read .value3 .ensures,
       read .before .value2 .ensures,
       read .before .before .value .ensures,
@@ -55,9 +62,10 @@ fill-spec =
     value-requires-3
     cast-put-transactions
     put-transactions-requires
-    element-write-cells
-    element-write-cells-2
-    element-write-cells-3
-    element-write-cells-4
-    element-write-cells-5
+    slice-write-cells
+    slice-write-cells-2
+    slice-write-cells-3
+    slice-write-cells-4
+    slice-write-cells-5
+    same-length
     returns)

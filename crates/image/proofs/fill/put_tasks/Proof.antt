@@ -2,7 +2,7 @@
 use mathlib.Core.Path.{_≡_, refl, _∙_}
 use Prim.Native.Nat.{_-_, _*_, _≤_, zero-le}
 use native.Mathlib.Omega.{arith}
-use lib.Seq.{sets}
+use lib.Seq.{sets, length-sets}
 use denote.Ref.{now}
 use Rattle.table.specs.Lists.{joined}
 use Rattle.format.specs.Places.{taskWidth}
@@ -19,9 +19,9 @@ abbrev μ-loop : tie.MeasureT-loop
 μ-loop image modes count at owner cells₀ cell size j₀ cells j = count - j
 
 width :
-    (c : tie.In-loop Inv-loop μ-loop) → c .before .loop .j * taskWidth (c .before .before .before .args .modes) ≤ 14446
+    (c : tie.In-loop Inv-loop μ-loop) → c .before .loop .j * taskWidth (c .before .before .before .before .args .modes) ≤ 14446
 width c =
-    tasks-width (c .before .loop .j) (c .before .before .before .args .modes)
+    tasks-width (c .before .loop .j) (c .before .before .before .before .args .modes)
     (omega arith)
     (omega arith)
 
@@ -48,7 +48,7 @@ add-put-task-2 : tie.Need-add-put-task-2 Inv-loop μ-loop
 add-put-task-2 c = omega arith
 
 put-task-requires : tie.Need-put-task-requires Inv-loop μ-loop
-put-task-requires c κs = omega (arith, width (c .before))
+put-task-requires c κs = rw (c .before .before .loop .inv .1, length-sets) (omega (arith, width (c .before)))
 
 add-j : tie.Need-add-j Inv-loop μ-loop
 add-j c = omega arith
@@ -58,17 +58,21 @@ loop-less c = omega arith
 
 loop-again : tie.Need-loop-again Inv-loop μ-loop
 loop-again c =
-    let at-loop = c .before .before .before in
-    let a = at-loop .before .before .args in (
+    let stored = c .before .before in
+    let at-loop = stored .before .before .before in
+    let a = at-loop .before .before .before .args in (
       omega arith,
-      c .put-task .ensures
+      stored .put-task .ensures
           ∙ rw (at-loop .loop .inv .1)
           (next-task (now (a .image)) (a .modes) (a .at) (a .owner) (now (a .cells)) (a .cell) (at-loop .loop .j)),
     )
 
+same-length : tie.Need-same-length Inv-loop μ-loop
+same-length c = rw (c .before .loop .inv .1, length-sets)
+
 returns : tie.Need-returns Inv-loop μ-loop
 returns c =
-    let past : c .before .loop .j ≡ c .before .before .before .args .count = omega arith in
+    let past : c .before .loop .j ≡ c .before .before .before .before .args .count = omega arith in
     rw (← past) (c .before .loop .inv .1)
 
 pub put-tasks-spec : {M : Type 1} → statement M
@@ -88,4 +92,5 @@ put-tasks-spec =
     add-j
     loop-less
     loop-again
+    same-length
     returns)

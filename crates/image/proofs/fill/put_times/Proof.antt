@@ -3,7 +3,7 @@ use mathlib.Core.Path.{_≡_, refl, _∙_}
 use mathlib.Core.List.{List}
 use Prim.Native.Nat.{ℕ, _+_, _-_, _*_, _≤_, zero-le}
 use native.Mathlib.Omega.{arith}
-use lib.Seq.{sets}
+use lib.Seq.{sets, length-sets}
 use denote.Ref.{now}
 use Rattle.bits.specs.Bits.{valueAt}
 use Rattle.table.specs.Limits.{timeWidth, modesMost}
@@ -44,8 +44,10 @@ add-cells c = omega arith
 mul-cells : tie.Need-mul-cells Inv-loop μ-loop
 mul-cells c = omega arith
 
-element-write-cells : tie.Need-element-write-cells Inv-loop μ-loop
-element-write-cells c = omega arith
+slice-write-cells : tie.Need-slice-write-cells Inv-loop μ-loop
+slice-write-cells c =
+    let at-loop = c .before .before in
+    simp (at-loop .loop .inv .1, at-loop .before .before .before .clear .ensures, length-sets) (omega arith)
 
 add-m : tie.Need-add-m Inv-loop μ-loop
 add-m c = omega arith
@@ -56,14 +58,17 @@ loop-less c = omega arith
 loop-again : tie.Need-loop-again Inv-loop μ-loop
 loop-again c =
     let at-loop = c .before .before in
-    let a = at-loop .before .before .before .before .args in
+    let a = at-loop .before .before .before .before .before .before .before .args in
     (omega arith, rw (at-loop .loop .inv .1, c .value .ensures) (store-next (times (now (a .image)) (a .at)) _ (a .cell) (at-loop .loop .m)))
+
+same-length : tie.Need-same-length Inv-loop μ-loop
+same-length c = simp (c .before .loop .inv .1, c .before .before .before .before .clear .ensures, length-sets)
 
 returns : tie.Need-returns Inv-loop μ-loop
 returns c =
-    let a = c .before .before .before .before .before .args in
+    let a = c .before .before .before .before .before .before .before .before .args in
     let past : c .before .loop .m ≡ a .modes = omega arith in
-    rw (past, c .before .before .clear .ensures) at (c .before .loop .inv .1)
+    rw (past, c .before .before .before .before .clear .ensures) at (c .before .loop .inv .1)
     ∙ over-zeros modesMost (a .modes) (times (now (a .image)) (a .at)) (now (a .cells)) (a .cell) (omega arith)
 
 pub put-times-spec : {M : Type 1} → statement M
@@ -79,8 +84,9 @@ put-times-spec =
     value-requires
     add-cells
     mul-cells
-    element-write-cells
+    slice-write-cells
     add-m
     loop-less
     loop-again
+    same-length
     returns)

@@ -9,12 +9,13 @@ use Rattle.bits.proofs.Put.{length-put}
 use Rattle.table.specs.Sum.{sum}
 use Rattle.table.specs.Lists.{joined}
 use Rattle.table.specs.Table.{transactions}
+use Rattle.table.specs.Limits.{transactionsMost}
 use Rattle.row.specs.Row.{tasksBefore, transactionOf, tableOf}
 use Rattle.format.specs.Places.{firstAt}
 use Rattle.format.specs.Image.{transactionBits}
 use Rattle.format.specs.Write.{startOf}
 use Rattle.writer.proofs.Scanned.{modes-there, tasks-there, next-start}
-use Rattle.writer.proofs.Laid.{Few, few, near, transactions-laid, next-tasks}
+use Rattle.writer.proofs.Laid.{transactionWidth, Few, few, near, transactions-laid, next-tasks}
 use Rattle.writer.proofs.lay.lay_transactions.Statement.{statement}
 use Rattle.writer.proofs.lay.lay_transactions.Tie as tie
 
@@ -35,7 +36,7 @@ there c = omega (arith, c .before .loop .inv .0)
 here : (c : tie.In-loop Inv-loop μ-loop) → Few (now (c .before .before .before .before .before .args .row)) (c .before .loop .u)
 here c = few (now (c .before .before .before .before .before .args .row)) (c .before .before .before .before .before .pre) (c .before .loop .u) (there c)
 
-close : (c : tie.At-loop Inv-loop μ-loop) → c .loop .at ≤ 34 + 32 * 4801
+close : (c : tie.At-loop Inv-loop μ-loop) → c .loop .at ≤ firstAt + transactionsMost * transactionWidth
 close c =
     let x = c .before .before .before .before in
     let row = now (x .args .row) in

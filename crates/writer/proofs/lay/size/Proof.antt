@@ -4,10 +4,12 @@ use Prim.Native.Nat.{_+_, _-_, _*_, _≤_, _<_, zero-le}
 use native.Mathlib.Omega.{arith}
 use denote.Ref.{now}
 use Rattle.table.specs.Table.{transactions}
+use Rattle.table.specs.Limits.{transactionsMost}
 use Rattle.row.specs.Row.{tableOf}
+use Rattle.format.specs.Places.{firstAt}
 use Rattle.format.specs.Write.{startOf}
 use Rattle.writer.proofs.Scanned.{modes-there, tasks-there, next-start}
-use Rattle.writer.proofs.Laid.{Few, few, near}
+use Rattle.writer.proofs.Laid.{transactionWidth, Few, few, near}
 use Rattle.writer.proofs.lay.size.Statement.{statement}
 use Rattle.writer.proofs.lay.size.Tie as tie
 
@@ -33,7 +35,7 @@ there c = omega (arith, c .before .loop .inv .0)
 here : (c : tie.In-loop Inv-loop μ-loop) → Few (now (c .before .before .before .before .args .row)) (c .before .loop .u)
 here c = few (now (c .before .before .before .before .args .row)) (c .before .before .before .before .pre) (c .before .loop .u) (there c)
 
-close : (c : tie.At-loop Inv-loop μ-loop) → c .loop .at ≤ 34 + 32 * 4801
+close : (c : tie.At-loop Inv-loop μ-loop) → c .loop .at ≤ firstAt + transactionsMost * transactionWidth
 close c =
     let x = c .before .before .before in
     let row = now (x .args .row) in

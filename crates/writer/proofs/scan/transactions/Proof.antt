@@ -10,6 +10,7 @@ use Rattle.table.specs.Number as numbered
 use Rattle.refusals.specs.declared.Answer.the-variants.{Accepted}
 use Rattle.refusals.specs.Answer.{firstOf}
 use Rattle.refusals.proofs.Findings.{accepted-is, none-first, go-on, stop}
+use Rattle.table.specs.Limits.{transactionsMost, tasksInAll}
 use Rattle.row.specs.Row.{tableOf, headCell, modesCell, hasCell}
 use Rattle.format.specs.Write.{startOf}
 use Rattle.format.proofs.Places.{tasks-width}
@@ -21,7 +22,7 @@ abbrev Inv-loop : tie.InvT-loop
 Inv-loop row count before₀ at₀ u₀ before at u =
     (count ≡ transactions (tableOf row))
     × (u ≤ count)
-    × (before ≤ 64)
+    × (before ≤ tasksInAll)
     × (at ≤ 34 + 14_479 * u)
     × (before ≡ numbered.before (tableOf row) u)
     × (at ≡ startOf (tableOf row) u)
@@ -36,7 +37,7 @@ row c = now (c .before .before .before .before .args .row)
 there : (c : tie.In-loop Inv-loop μ-loop) → c .before .loop .u < transactions (tableOf (row c))
 there c = omega (arith, c .before .loop .inv .0)
 
-few : (c : tie.In-loop Inv-loop μ-loop) → c .before .loop .u < 32
+few : (c : tie.In-loop Inv-loop μ-loop) → c .before .loop .u < transactionsMost
 few c = omega (arith, c .before .loop .inv .0, c .before .before .before .before .pre)
 
 -- what was found is what the table's transaction u has
