@@ -1,13 +1,13 @@
 -- What is read from an image into the front of cleared work cells holds the image's table.
-use mathlib.Core.Path.{_≡_, sym, ap, _∙_}
+use mathlib.Core.Path.{_≡_, ap, _∙_}
 use mathlib.Core.List.{List}
-use Prim.Native.Nat.{ℕ, _≤_}
+use Prim.Native.Nat.{ℕ}
 use lib.Dec.{lit≤}
 use lib.ListN.{length, replicate, length-replicate}
 use Rattle.refusals.specs.declared.Answer.{Answer}
 use Rattle.format.specs.Fault.{imageFault, IsAccepted}
 use Rattle.format.specs.Said.{tableIn}
-use Rattle.row.specs.Row.{rowCells, tableOf, RowOfTable}
+use Rattle.row.specs.Row.{tableOf, RowOfTable}
 use Rattle.image.specs.Read.{frontFault, frontOver}
 use Rattle.image.proofs.Decoded.{front-fault, InFront, front-row}
 use Rattle.answers.specs.Work.{workCells}

@@ -95,8 +95,8 @@ refusals :
 unfolding computing
 refusals = refl
 
--- under document 01's limits those 33 were too many
-before : faultUnder limitsBefore (set last 3 0xA8) ≡ Refused TransactionCount 28
+-- under document 01's limits: the image itself, and those 33, which were too many
+before : map (faultUnder limitsBefore) (last ∷ set last 3 0xA8 ∷ []) ≡ Accepted ∷ Refused TransactionCount 28 ∷ []
 unfolding computing
 before = refl
 

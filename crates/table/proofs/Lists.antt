@@ -136,7 +136,7 @@ pub length-padded : (n : ℕ) (l : List ℕ) → length l ≤ n → length (padd
 unfolding padded
 length-padded n l h = rw (length-append, length-replicate) (omega arith)
 
-pub zeros : (n i : ℕ) → getD (replicate {A = ℕ} n 0) i 0 ≡ 0
+zeros : (n i : ℕ) → getD (replicate {A = ℕ} n 0) i 0 ≡ 0
 zeros zero i = refl
 zeros (suc n) zero = refl
 zeros (suc n) (suc i) = zeros n i

@@ -1,5 +1,5 @@
 -- A table's rules under limits that were raised: what they found they find again, unless it was a 4 or a 7. For any look.
-use mathlib.Core.Path.{_≡_, refl, sym, ap, _∙_}
+use mathlib.Core.Path.{_≡_, refl}
 use mathlib.Core.Bool.{Bool, true, false, _&&_}
 use mathlib.Core.Logic.{inl, inr}
 use Prim.Native.Nat.{ℕ, _+_, _^_, _≤_, _<_}
@@ -7,12 +7,11 @@ use native.Mathlib.Nat.{le-trans}
 use native.Mathlib.Omega.{arith}
 use lib.Dec.{leb, lit≤}
 use borrow.Author.Tests.{leb-true, le-leb}
-use Rattle.refusals.specs.declared.Answer.{Answer}
 use Rattle.refusals.specs.Answer.{_then_, firstOf}
 use Rattle.refusals.proofs.Findings.{both-first, both-second, both-hold, Stays, stays-checked, stays-then, stays-first}
 use Rattle.table.specs.Limits.{Limits, limits, transactionsMost, transactionsWidth}
 use Rattle.table.specs.Fields.{HeaderField, HeadField, TaskField, Field}
-use Rattle.table.specs.Rules.{Look, part, isBetween, rule, headerRules, headRules, taskRules, transactionRules, bodyRules, tableRules}
+use Rattle.table.specs.Rules.{Look, part, isBetween, headerRules, headRules, taskRules, transactionRules, bodyRules, tableRules}
 use Rattle.table.specs.Raised.{Raises, limitsBefore, IsCount}
 
 up-to : (n : ℕ) {most more : ℕ} → most ≤ more → leb n most ≡ true → leb n more ≡ true

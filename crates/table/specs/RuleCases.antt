@@ -115,6 +115,13 @@ sum-so-far :
 unfolding computing
 sum-so-far = refl
 
+-- five transactions of 13 tasks were too many under document 01's limits
+sum-before :
+    map (λ most. foundUnder most (table 20 (listOf 5 (λ u. transaction 20 1 (listOf 13 (λ j. task 0 0 0 1 0 (1 ∷ [])))))) 636) (limitsBefore ∷ limits ∷ [])
+    ≡ Refused TaskCount 502 ∷ Accepted ∷ []
+unfolding computing
+sum-before = refl
+
 most-tasks : limits .inAll ≡ 128
 most-tasks = refl
 

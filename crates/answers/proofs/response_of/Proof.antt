@@ -1,5 +1,5 @@
 -- `response_of` gives the code and the bound of the task, or 13 where the table has no task of that number.
-use mathlib.Core.Path.{_≡_, sym, subst, subst₂}
+use mathlib.Core.Path.{sym, subst₂}
 use Prim.Native.Nat.{ℕ}
 use native.Mathlib.Omega.{arith}
 use borrow.Author.Needs.{needs}

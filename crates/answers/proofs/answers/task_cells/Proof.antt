@@ -3,7 +3,6 @@ use mathlib.Core.Path.{_≡_, sym, ap, ap₂, _∙_, subst}
 use denote.Ref.{now}
 use borrow.Author.Needs.{needs}
 use Rattle.table.specs.Table.{Table, IsTask, deadline}
-use Rattle.table.specs.Number.{number}
 use Rattle.row.specs.Row.{tableOf}
 use Rattle.row.proofs.Fields.{read-deadline}
 use Rattle.periods.specs.Charge.{imposed}

@@ -1,5 +1,5 @@
 -- `parts_from` gives what the bound of the task is made of, or 13 where the table has no task of that number.
-use mathlib.Core.Path.{_≡_, subst}
+use mathlib.Core.Path.{subst}
 use native.Mathlib.Omega.{arith}
 use borrow.Author.Needs.{needs}
 use Rattle.table.specs.Table.{Table}

@@ -1,11 +1,9 @@
 -- `prepare` meets its contract. The invariant: the candidates with numbers below k have their cells, and in front of them stands the
 -- table's row as it was.
-use mathlib.Core.Path.{_≡_, sym, subst, _∙_}
-use mathlib.Core.List.{List}
-use Prim.Native.Nat.{ℕ, _+_, _-_, _≤_}
+use mathlib.Core.Path.{_≡_, subst, _∙_}
+use Prim.Native.Nat.{ℕ, _-_, _≤_}
 use native.Mathlib.Omega.{arith}
 use denote.Ref.{now}
-use Rattle.table.specs.Table.{Table}
 use Rattle.table.specs.Number.{inAll}
 use Rattle.row.specs.Row.{rowCells, tableOf, RowOfTable}
 use Rattle.answers.specs.Parts.{SameTo, Phased}
