@@ -67,7 +67,7 @@ pub fn answer(image: &[u8], budget: u32) -> Result<Vec<Cells>, Refusal> {
     Ok(all_cells(&read(image)?, Charging::Imposed, budget))
 }
 
-/// The host 'gets code × 2^32 + bound; for 1 to 11 and 13 it gets that number × 2^32 + its place'.
+/// The host 'gets code × 2^32 + bound; for 1 to 11 and 13 it gets that number × 2^32 + its place', and so for 14.
 pub fn host(image: &[u8], task: u32, budget: u32) -> u64 {
     let pair = |upper: u32, lower: u32| ((upper as u64) << 32) + lower as u64;
     let table = match read(image) {

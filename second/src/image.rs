@@ -2,7 +2,8 @@
 
 use crate::table::{Table, Task, Transaction};
 
-/// A number of 'Numbers a caller may get', 1 to 11, and the bit position that goes with it.
+/// A number of 'Numbers a caller may get', 1 to 11, or 14 of request 5 of document 02, and the bit position that goes with
+/// it.
 #[derive(Clone, Copy, Debug, PartialEq, Eq)]
 pub struct Refusal {
     pub number: u32,
@@ -113,6 +114,7 @@ fn task(bits: &mut Bits, modes: usize) -> Result<Task, Refusal> {
     let offset = bits.value(24)?;
     let jitter = bits.value(24)?;
     let blocking = bits.value(24)?;
+    let deadline_place = bits.at;
     let deadline = bits.field(26)?;
     let is_positive = deadline.value != 0;
     let deadline = deadline.checked(is_positive, 8)?;
@@ -126,7 +128,12 @@ fn task(bits: &mut Bits, modes: usize) -> Result<Task, Refusal> {
     if times.iter().all(|&time| time == 0) {
         return refuse(9, first_time);
     }
-    Ok(Task { offset, jitter, blocking, deadline, priority, times })
+    let task = Task { offset, jitter, blocking, deadline, priority, times };
+    // 'Checked for each task after 9', 'at the place of the deadline field'.
+    if task.deadline < task.least_deadline() {
+        return refuse(14, deadline_place);
+    }
+    Ok(task)
 }
 
 /// 'Zero bits to the end of the byte', and no byte after it.

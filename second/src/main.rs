@@ -1,5 +1,5 @@
-//! A second, independent program of the response-time analysis, written from document 01 alone, to compare the proved
-//! program with. It takes no short cut: every phase, charge and chain is worked out as the document writes it.
+//! A second, independent program of the response-time analysis, written from documents 01 and 02 alone, to compare the
+//! proved program with. It takes no short cut: every phase, charge and chain is worked out as the document writes it.
 
 mod answer;
 mod arguments;

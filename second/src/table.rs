@@ -1,4 +1,5 @@
-//! The decoded table and its limits, as 'The table image' and request 4 of document 02 give them. Nothing here knows bits.
+//! The decoded table and its limits, as 'The table image' and the requests 4 and 5 of document 02 give them. Nothing here
+//! knows bits.
 
 /// One task. `times` has one execution time C for each mode of its transaction.
 #[derive(Clone, Debug, PartialEq, Eq)]
@@ -47,6 +48,17 @@ impl Table {
     /// The number of task j of transaction v in the whole table.
     pub fn number(&self, v: usize, j: usize) -> usize {
         self.transactions[..v].iter().map(|before| before.tasks.len()).sum::<usize>() + j
+    }
+}
+
+impl Task {
+    pub fn greatest_time(&self) -> i64 {
+        *self.times.iter().max().expect("a time for each mode")
+    }
+
+    /// 'Its offset plus its greatest execution time': a deadline below it nobody could keep.
+    pub fn least_deadline(&self) -> i64 {
+        self.offset + self.greatest_time()
     }
 }
 

@@ -1,9 +1,10 @@
-//! Which field of an image stands at a bit position. Nothing is checked: the layout of 'The table image' is walked with the
-//! counts that the image says.
+//! Which field of an image stands at a bit position, and what stands in a field. Nothing is checked: the layout of 'The
+//! table image' is walked with the counts that the image says.
 
 use crate::draft::Kind;
 use std::fmt::{self, Display};
 use std::ops::ControlFlow::{self, Break, Continue};
+use std::ops::Range;
 
 /// A field by its kind and by what it belongs to, as far as its kind belongs to that. The task is numbered in the whole
 /// table.
@@ -36,27 +37,32 @@ impl Display for Name {
     }
 }
 
-/// A walk over the fields up to the one that holds `place`; the next field starts at `at`.
-struct Walk<'a> {
+/// A walk over the fields; the next one starts at `at`.
+struct Walk<'a, E: Fn(Name, usize) -> bool> {
     image: &'a [u8],
-    place: usize,
     at: usize,
+    /// Whether it ends in a field, by the field's name and the bit position behind it.
+    ends_in: E,
 }
 
-impl Walk<'_> {
+impl<E: Fn(Name, usize) -> bool> Walk<'_, E> {
     /// The place of a refusal stands before any field that the image has no bits for, or at the first of them.
     fn bit(&self, at: usize) -> usize {
         ((self.image[at / 8] >> (7 - at % 8)) & 1) as usize
     }
 
-    /// Passes a field and says its value, unless it holds the place.
+    fn value(&self, bits: Range<usize>) -> usize {
+        bits.fold(0, |value, at| 2 * value + self.bit(at))
+    }
+
+    /// Passes a field and says its value, unless the walk ends in it.
     fn pass(&mut self, name: Name) -> ControlFlow<Name, usize> {
         let start = self.at;
         self.at += name.kind.width();
-        if self.place < self.at {
+        if (self.ends_in)(name, self.at) {
             return Break(name);
         }
-        Continue((start..self.at).fold(0, |value, at| 2 * value + self.bit(at)))
+        Continue(self.value(start..self.at))
     }
 
     fn table(&mut self) -> ControlFlow<Name> {
@@ -91,8 +97,15 @@ impl Walk<'_> {
 
 /// The field that holds a bit position, or none behind the table.
 pub fn field_at(image: &[u8], place: usize) -> Option<Name> {
-    match (Walk { image, place, at: 0 }).table() {
+    match (Walk { image, at: 0, ends_in: |_, end| place < end }).table() {
         Break(name) => Some(name),
         Continue(()) => None,
     }
+}
+
+/// The value of a field that the image has.
+pub fn value_of(image: &[u8], name: Name) -> i64 {
+    let mut walk = Walk { image, at: 0, ends_in: |each, _| each == name };
+    assert_eq!(walk.table(), Break(name), "the image has the field");
+    walk.value(walk.at - name.kind.width()..walk.at) as i64
 }

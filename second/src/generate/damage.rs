@@ -1,6 +1,7 @@
 //! Damaged images: each refusal at its place, two faults at once, and bytes that nobody wrote.
 
-use crate::draft::{fields, pack, Field, Kind};
+use crate::draft::{fields, pack, place, Field, Kind};
+use crate::generate::deadline::put_too_soon;
 use crate::generate::tables::{self, TableKind};
 use crate::random::Random;
 use crate::table::{Table, Transaction};
@@ -14,6 +15,13 @@ pub enum Damage {
     OtherCount,
     TooManyTasks,
     NoTime,
+    /// A deadline that nobody could keep, or two; and such a one with another fault, of which either may be the first.
+    TooSoon,
+    TooSoonTwice,
+    TooSoonAndCut,
+    TooSoonAndNoTime,
+    TooSoonAndBadField,
+    TooSoonAndBadEnd,
     Padding,
     BytesFollow,
     TwoFaults,
@@ -36,6 +44,12 @@ pub const DAMAGES: &[Damage] = &[
     Damage::OtherCount,
     Damage::TooManyTasks,
     Damage::NoTime,
+    Damage::TooSoon,
+    Damage::TooSoonTwice,
+    Damage::TooSoonAndCut,
+    Damage::TooSoonAndNoTime,
+    Damage::TooSoonAndBadField,
+    Damage::TooSoonAndBadEnd,
     Damage::Padding,
     Damage::BytesFollow,
     Damage::TwoFaults,
@@ -68,13 +82,22 @@ pub fn damaged(random: &mut Random, table: &Table, damage: Damage) -> Vec<u8> {
             clear_times(random, &mut fields);
             pack(&fields)
         }
-        Damage::Padding => padding(random, &fields),
-        Damage::BytesFollow => {
-            let mut image = pack(&fields);
-            let count = random.pick(&[1, 1, 2, 3, Table::LONGEST_IMAGE + 79]);
-            image.extend((0..count).map(|_| if random.percent(50) { 0 } else { random.next() as u8 }));
-            image
+        Damage::TooSoon => pack(&TooSoon::put(random, table).fields),
+        Damage::TooSoonTwice => {
+            let mut table = table.clone();
+            put_too_soon(random, &mut table);
+            pack(&TooSoon::put(random, &table).fields)
         }
+        Damage::TooSoonAndCut => TooSoon::put(random, table).cut(random),
+        Damage::TooSoonAndNoTime => TooSoon::put(random, table).without_time(random),
+        Damage::TooSoonAndBadField => TooSoon::put(random, table).with_bad_field(random, table.frame),
+        Damage::TooSoonAndBadEnd => {
+            let fields = TooSoon::put(random, table).fields;
+            let end = random.pick(&[padding, bytes_follow]);
+            end(random, &fields)
+        }
+        Damage::Padding => padding(random, &fields),
+        Damage::BytesFollow => bytes_follow(random, &fields),
         Damage::TwoFaults => two_faults(random, fields, table.frame),
         Damage::FlippedBits => {
             let mut image = pack(&fields);
@@ -94,20 +117,89 @@ pub fn damaged(random: &mut Random, table: &Table, damage: Damage) -> Vec<u8> {
     }
 }
 
+/// The fields of a table in which some task has a deadline that nobody could keep.
+struct TooSoon {
+    fields: Vec<Field>,
+    /// Where that task begins and ends among them.
+    first: usize,
+    end: usize,
+}
+
+impl TooSoon {
+    fn put(random: &mut Random, table: &Table) -> TooSoon {
+        let mut table = table.clone();
+        let (v, j) = put_too_soon(random, &mut table);
+        let fields = fields(&table);
+        let first = places(&fields, Kind::Offset)[table.number(v, j)];
+        let times = fields[first..].iter().position(|field| field.kind == Kind::Time).expect("a mode");
+        TooSoon { fields, first, end: first + times + table.transactions[v].modes }
+    }
+
+    /// Cut in its last time, which counts before the deadline does, right behind it, or further on.
+    fn cut(self, random: &mut Random) -> Vec<u8> {
+        let mut image = pack(&self.fields);
+        let whole = place(&self.fields, self.end).div_ceil(8);
+        let later = random.within(whole as i64, image.len() as i64) as usize;
+        image.truncate(random.pick(&[whole - 2, whole - 1, whole, later]));
+        image
+    }
+
+    /// No time in any mode: the deadline is below the offset alone.
+    fn without_time(mut self, random: &mut Random) -> Vec<u8> {
+        let task = &mut self.fields[self.first..self.end];
+        clear_times(random, task);
+        for field in task {
+            match field.kind {
+                Kind::Offset => field.value = random.within(2, tables::FIELD_24),
+                Kind::Deadline => field.value = 1,
+                _ => (),
+            }
+        }
+        pack(&self.fields)
+    }
+
+    /// Another field is bad, or another task has no time: mostly behind that task, if there is anything.
+    fn with_bad_field(mut self, random: &mut Random, frame: i64) -> Vec<u8> {
+        let from = if random.percent(80) { self.end } else { 0 };
+        let others = &mut self.fields[from..];
+        if random.percent(20) {
+            clear_times(random, others);
+        } else {
+            let kind = random.pick(&[Kind::Period, Kind::ModeCount, Kind::TaskCount, Kind::Deadline]);
+            spoil(random, others, kind, frame);
+        }
+        pack(&self.fields)
+    }
+}
+
+fn bytes_follow(random: &mut Random, fields: &[Field]) -> Vec<u8> {
+    let mut image = pack(fields);
+    let count = random.pick(&[1, 1, 2, 3, Table::LONGEST_IMAGE + 79]);
+    image.extend((0..count).map(|_| if random.percent(50) { 0 } else { random.next() as u8 }));
+    image
+}
+
 fn cut_in_field(random: &mut Random, fields: &[Field]) -> Vec<u8> {
     let index = random.below(fields.len());
-    let start = crate::draft::place(fields, index);
+    let start = place(fields, index);
     let bits = start + random.below(fields[index].kind.width());
     let mut image = pack(fields);
     image.truncate(bits / 8);
     image
 }
 
-/// Some field of that kind takes a value that its check refuses.
+/// Where the fields of a kind stand.
+fn places(fields: &[Field], kind: Kind) -> Vec<usize> {
+    (0..fields.len()).filter(|&index| fields[index].kind == kind).collect()
+}
+
+/// Some field of that kind, if there is one, takes a value that its check refuses.
 fn spoil(random: &mut Random, fields: &mut [Field], kind: Kind, frame: i64) {
-    let places: Vec<usize> = (0..fields.len()).filter(|&index| fields[index].kind == kind).collect();
-    let index = random.pick(&places);
-    fields[index].value = refused_number(random, kind, frame);
+    let places = places(fields, kind);
+    if !places.is_empty() {
+        let index = random.pick(&places);
+        fields[index].value = refused_number(random, kind, frame);
+    }
 }
 
 /// A number that fits a field of that kind and that its check refuses.
@@ -147,19 +239,21 @@ pub fn crowded(random: &mut Random) -> Table {
     table
 }
 
-/// Every time of some task is 0.
+/// Every time of some task, if there is one, is 0.
 fn clear_times(random: &mut Random, fields: &mut [Field]) {
-    let priorities: Vec<usize> = (0..fields.len()).filter(|&i| fields[i].kind == Kind::Priority).collect();
-    let first = random.pick(&priorities) + 1;
-    for field in fields[first..].iter_mut().take_while(|field| field.kind == Kind::Time) {
-        field.value = 0;
+    let priorities = places(fields, Kind::Priority);
+    if !priorities.is_empty() {
+        let first = random.pick(&priorities) + 1;
+        for field in fields[first..].iter_mut().take_while(|field| field.kind == Kind::Time) {
+            field.value = 0;
+        }
     }
 }
 
 /// A padding bit 1, if there is padding, and sometimes a byte after it.
 fn padding(random: &mut Random, fields: &[Field]) -> Vec<u8> {
     let mut image = pack(fields);
-    let end = crate::draft::place(fields, fields.len());
+    let end = place(fields, fields.len());
     let bits = 8 * image.len() - end;
     if bits > 0 {
         let at = end + random.below(bits);

@@ -1,6 +1,7 @@
 //! Cases for a comparison: a budget and an image. Case `index` of a seed depends on nothing else.
 
 pub mod damage;
+pub mod deadline;
 pub mod tables;
 pub mod who;
 
@@ -43,7 +44,7 @@ pub fn image(seed: u64, index: u64) -> Vec<u8> {
 fn drawn_image(random: &mut Random) -> Vec<u8> {
     let kind = kind(random);
     let table = tables::table(random, kind);
-    if random.percent(30) {
+    if random.percent(35) {
         let damage = random.pick(damage::DAMAGES);
         damage::damaged(random, &table, damage)
     } else {

@@ -1,12 +1,13 @@
 //! Good tables of many kinds. Each kind has something that an analysis could get wrong.
 
 use crate::bound::frame_demand;
+use crate::generate::deadline;
 use crate::interference::{Charging, Fixed};
 use crate::random::Random;
 use crate::table::{Table, Task, Transaction};
 
-const FIELD_24: i64 = (1 << 24) - 1;
-const FIELD_26: i64 = (1 << 26) - 1;
+pub const FIELD_24: i64 = (1 << 24) - 1;
+pub const FIELD_26: i64 = (1 << 26) - 1;
 
 /// The limits that a table had before request 4 of document 02: whoever still knows them answers otherwise beyond them.
 pub const FORMER_TRANSACTIONS: usize = 32;
@@ -97,6 +98,7 @@ pub enum TableKind {
     EqualModes,
     EqualTransactions,
     NearlyFull,
+    JustEnough,
 }
 
 pub const KINDS: &[TableKind] = &[
@@ -122,6 +124,7 @@ pub const KINDS: &[TableKind] = &[
     TableKind::EqualModes,
     TableKind::EqualTransactions,
     TableKind::NearlyFull,
+    TableKind::JustEnough,
 ];
 
 pub fn table(random: &mut Random, kind: TableKind) -> Table {
@@ -150,8 +153,10 @@ pub fn table(random: &mut Random, kind: TableKind) -> Table {
             equal_transactions(random, &mut table);
         }
         TableKind::NearlyFull => nearly_fill(random, &mut table),
+        TableKind::JustEnough => deadline::just_enough(random, &mut table),
         _ => (),
     }
+    deadline::raise(&mut table);
     table
 }
 
@@ -237,6 +242,14 @@ fn shape(random: &mut Random, kind: TableKind) -> Shape {
             load: (30, 70),
             ..PLAIN
         },
+        TableKind::JustEnough => Shape {
+            frames: random.pick(&[SMALL_FRAMES, LARGE_FRAMES]),
+            modes: (1, 4),
+            zeros: 40,
+            offset: random.pick(&[Size::BelowPeriod, Size::SomePeriods, Size::Any]),
+            jitter: random.pick(&[Size::Zero, Size::BelowPeriod]),
+            ..PLAIN
+        },
         TableKind::ExtremeFields => Shape {
             frames: random.pick(&[SMALL_FRAMES, LARGE_FRAMES]),
             offset: Size::Any,
@@ -299,19 +312,15 @@ fn task(random: &mut Random, shape: &Shape, period: i64, modes: usize, longest: 
             *time = 0;
         }
     }
-    let deadline = match random.within(0, 3) {
-        0 => random.within(1, 2 * period),
-        1 => FIELD_26,
-        _ => random.within(1, 8 * period).min(FIELD_26),
-    };
-    Task {
+    let task = Task {
         offset: shape.offset.draw(random, period),
         jitter: shape.jitter.draw(random, period),
         blocking: shape.blocking.draw(random, period),
-        deadline: deadline.min(FIELD_26),
+        deadline: FIELD_26,
         priority: random.within(0, shape.priorities - 1),
         times,
-    }
+    };
+    Task { deadline: deadline::in_reach(random, &task, period), ..task }
 }
 
 /// Some task in some mode runs longer than its period.

@@ -1,7 +1,7 @@
 //! What the technician reads: the words of a task, of a table and of a refusal, and the table as text.
 
 use super::*;
-use crate::desk::place::{field_at, Name};
+use crate::desk::place::{field_at, value_of, Name};
 use crate::desk::words::{number, words, Asked};
 use crate::desk::Text;
 use crate::draft::{fields, image, pack, place, Kind};
@@ -87,7 +87,7 @@ fn all_codes() -> Table {
     let only = |mode: usize, time: i64| (0..5).map(|other| if other == mode { time } else { 0 }).collect::<Vec<i64>>();
     let tasks = vec![
         Task { deadline: 10, ..task(0, &only(0, 2), 5) },
-        Task { deadline: 4, ..task(0, &only(1, 5), 4) },
+        Task { blocking: 1, deadline: 5, ..task(0, &only(1, 5), 4) },
         Task { deadline: 1000, ..task(0, &only(2, 11), 3) },
         Task { blocking: Table::HORIZON, ..task(0, &only(3, 10), 2) },
         Task { blocking: 1, deadline: 67_108_863, ..task(0, &only(4, 10), 1) },
@@ -101,10 +101,11 @@ fn alone_in_frame(tasks: Vec<Task>) -> Table {
 
 #[test]
 fn each_code_has_its_words() {
-    let open = "   1     0         10        4          5          4  not shown to be in time, 1 above
-      completes 5 after the critical instant; task 1 sets it in mode 1:
+    let open = "   1     0         10        4          6          5  not shown to be in time, 1 above
+      completes 6 after the critical instant; task 1 sets it in mode 1:
+                                        1  blocking
                                         5  its own jobs (1)
-      arrived 0 after that instant, offset 0: 5 - 0 + 0 = 5
+      arrived 0 after that instant, offset 0: 6 - 0 + 0 = 6
    2     0         10        3          -      1,000  no bound: it and the tasks that can delay it may want more than \
 the major frame holds
    3     0         10        2          -      1,000  no bound: no busy time up to the horizon of 16,777,215 ticks was \
@@ -116,7 +117,7 @@ found to end
     assert_eq!(told(Text::Words, &image(&all_codes()), &[]), [HEADER, in_time, open].concat());
     assert_eq!(told(Text::Words, &image(&all_codes()), &["open"]), [HEADER, open].concat());
     let text =
-        "frame 10\ntrans 10 5\ntask 0 0 0 10 5 2 0 0 0 0\ntask 0 0 0 4 4 0 5 0 0 0\ntask 0 0 0 1000 3 0 0 11 0 0\n\
+        "frame 10\ntrans 10 5\ntask 0 0 0 10 5 2 0 0 0 0\ntask 0 0 1 5 4 0 5 0 0 0\ntask 0 0 0 1000 3 0 0 11 0 0\n\
                 task 0 0 16777215 1000 2 0 0 0 10 0\ntask 0 0 1 67108863 1 0 0 0 0 10\n";
     assert_eq!(told(Text::Show, &image(&all_codes()), &[]), text);
 }
@@ -231,10 +232,36 @@ fn each_refusal_has_its_words_and_its_field() {
             told(Text::Words, &[good, vec![10]].concat(), &[]),
             "(11): bytes follow the table, at byte 62, bit 0: the first byte behind the table",
         ),
+        (
+            refused_words(Kind::Deadline, 1, 6),
+            "(14): a deadline of 6, below offset 4 plus greatest time 3, at byte 33, bit 5: deadline of task 1, \
+             transaction 0",
+        ),
+        (
+            refused_words(Kind::Time, 2, 16_777_215),
+            "(14): a deadline of 4, below offset 0 plus greatest time 16,777,215, at byte 54, bit 0: deadline of task 2, \
+             transaction 1",
+        ),
     ];
     for (words, expected) in cases {
         assert_eq!(words, format!("image refused {expected}\n"));
     }
+}
+
+/// All of its three numbers with commas, the greatest time in the middle of three modes, and nothing behind that task.
+#[test]
+fn the_words_of_14_have_the_numbers_of_the_task() {
+    let short = Task { deadline: 1_234_567, ..task(1_000_000, &[0, 234_568, 234_567], 9) };
+    let table = Table {
+        frame: 20,
+        transactions: vec![transaction(20, vec![task(7, &[9, 8], 1)]), transaction(20, vec![short.clone(), short])],
+    };
+    let expected = "image refused (14): a deadline of 1,234,567, below offset 1,000,000 plus greatest time 234,568, \
+                    at byte 40, bit 6: deadline of task 1, transaction 1\n";
+    let image = image(&table);
+    assert_eq!(told(Text::Words, &image, &[]), expected);
+    // That task ends 67 + 154 + 33 + 178 = 8·54 bits in.
+    assert_eq!(told(Text::Show, &image[..54], &[]), expected);
 }
 
 /// Two transactions with two modes in one of them: every field by its name, and every bit in its field.
@@ -249,6 +276,7 @@ fn each_bit_is_in_a_field_that_has_a_name() {
         let name = field_at(&image, from).unwrap();
         assert_eq!(name.kind, field.kind);
         assert!((from..to).all(|at| field_at(&image, at) == Some(name)));
+        assert_eq!(value_of(&image, name), field.value);
         names.push(name.to_string());
     }
     assert_eq!(field_at(&image, place(&fields, fields.len())), None);
@@ -285,7 +313,7 @@ fn each_generated_refusal_is_at_the_start_of_its_field() {
         let Err(refusal) = read(&image) else { continue };
         let place = refusal.place as usize;
         let field = field_at(&image, place);
-        assert_eq!(field.is_none(), refusal.number >= 10, "case {index}");
+        assert_eq!(field.is_none(), matches!(refusal.number, 10 | 11), "case {index}");
         assert!(place == 0 || field.is_none() || field_at(&image, place - 1) != field, "case {index}");
         assert_eq!(told(Text::Words, &image, &["open"]), told(Text::Show, &image, &[]));
         kinds.extend(field.map(|name| format!("{:?}", name.kind)));

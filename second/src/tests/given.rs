@@ -58,11 +58,11 @@ fn a_response_above_a_bound_is_told_with_its_run() {
 /// The first job ends at 11, and the second waits when the run ends at 20.
 #[test]
 fn a_task_without_a_bound_is_played_and_has_none() {
-    let table = alone(Task { deadline: 10, ..task(0, &[11], 5) });
+    let table = alone(Task { deadline: 11, ..task(0, &[11], 5) });
     let row = row(&table);
     let (is_well, text) = told(&table, &row, &seen(&table, &row, 1, false), 1);
     assert!(is_well);
-    assert_eq!(text.lines().nth(1), Some("   0   21        10      none        11 late"));
+    assert_eq!(text.lines().nth(1), Some("   0   21        11      none        11"));
 }
 
 /// It is ready with its event, and the other takes all of the 20 ticks that are played.
@@ -86,6 +86,7 @@ fn a_table_of_long_periods_is_played_as_one_of_short_ones() {
         for task in &mut transaction.tasks {
             task.offset *= times;
             task.times[0] *= times;
+            task.deadline *= times;
         }
     }
     let row = row(&table);
@@ -130,7 +131,8 @@ fn no_table_has_too_many_jobs_to_be_played() {
     // Every job is held back for millions of periods.
     let held =
         Table { frame: 10, transactions: vec![transaction(10, vec![Task { jitter: frame, ..task(0, &[1], 9) }])] };
-    let late = Table { frame: 10, transactions: vec![transaction(10, vec![task(0, &[1], 9), task(frame, &[1], 8)])] };
+    let late = Task { deadline: frame + 1, ..task(frame, &[1], 8) };
+    let late = Table { frame: 10, transactions: vec![transaction(10, vec![task(0, &[1], 9), late])] };
     for table in [quick, held, late] {
         let row = row(&table);
         let extent = extent(&table, &row);

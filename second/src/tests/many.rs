@@ -2,14 +2,15 @@
 
 use super::*;
 use crate::answer::{all_cells, answer, host};
-use crate::draft;
-use crate::generate::damage::crowded;
-use crate::generate::tables::{table, TableKind, KINDS};
+use crate::desk::place::{field_at, value_of, Name};
+use crate::draft::{self, Kind};
+use crate::generate::damage::{crowded, damaged, Damage};
+use crate::generate::tables::{table, TableKind, FIELD_24, FIELD_26, KINDS};
 use crate::generate::who::asked;
-use crate::generate::{case, Case};
-use crate::image::read;
+use crate::generate::{case, image, Case};
+use crate::image::{read, Refusal};
 use crate::random::Random;
-use crate::simulate::small::{simulate, Settings};
+use crate::simulate::small::{self, simulate, Settings};
 use crate::stream::{self, Asked};
 use std::collections::{BTreeMap, BTreeSet};
 
@@ -20,6 +21,8 @@ fn good_tables_are_read_back() {
             let table = table(&mut Random::of(7, index), kind);
             assert_eq!(read(&draft::image(&table)), Ok(table));
         }
+        let table = small::table(&mut Random::of(7, index));
+        assert_eq!(read(&draft::image(&table)), Ok(table));
     }
 }
 
@@ -53,8 +56,78 @@ fn tasks_are_too_many_in_every_way() {
     assert!(seen.is_superset(&ways.into_iter().flatten().flatten().collect()), "{seen:?}");
 }
 
-/// Each refusal in one of 200 images, each code in one of 80 tasks, and no more spent budgets than one in five. Some
-/// chains are long, and some budgets end in one, else an error behind its first evaluations would not show.
+/// The task whose deadline stands at a place, and whether it is the last of the table.
+fn task_at(image: &[u8], place: usize) -> (Task, bool) {
+    let deadline = field_at(image, place).expect("a field");
+    let value = |kind, mode| value_of(image, Name { kind, mode, ..deadline });
+    let modes = value_of(image, Name { kind: Kind::ModeCount, task: 0, ..deadline }) as usize;
+    let times: Vec<i64> = (0..modes).map(|mode| value(Kind::Time, mode)).collect();
+    let end = place + Kind::Deadline.width() + Kind::Priority.width() + modes * Kind::Time.width();
+    let task = Task { deadline: value(Kind::Deadline, 0), ..task(value(Kind::Offset, 0), &times, 0) };
+    (task, field_at(image, end).is_none())
+}
+
+/// Each way of standing at the edge in one of 400 images: as much as somebody could just keep, and too little.
+#[test]
+fn deadlines_come_to_the_edge() {
+    let mut seen = BTreeMap::new();
+    let mut see = |name: &'static str, is_so: bool| *seen.entry(name).or_insert(0) += is_so as u32;
+    for index in 0..4000 {
+        let image = image(10, index);
+        let is_far = |task: &Task| task.least_deadline() > FIELD_24;
+        let is_longer_elsewhere = |task: &Task| task.times[0] < task.greatest_time();
+        match read(&image) {
+            Ok(table) => {
+                let tasks: Vec<Task> = table.transactions.into_iter().flat_map(|each| each.tasks).collect();
+                let just = |task: &&Task| task.deadline == task.least_deadline();
+                see("just enough", tasks.iter().any(|task| just(&task)));
+                see("just enough, far", tasks.iter().filter(just).any(is_far));
+                see("just enough, longer in another mode", tasks.iter().filter(just).any(is_longer_elsewhere));
+                see("as far as the fields go", tasks.iter().any(|task| task.least_deadline() == 2 * FIELD_24));
+                see("sum 2^24", tasks.iter().any(|task| task.least_deadline() == FIELD_24 + 1));
+                see("end of the field", tasks.iter().any(|task| task.deadline == FIELD_26));
+            }
+            Err(Refusal { number: 14, place }) => {
+                let (task, is_last) = task_at(&image, place as usize);
+                let Task { offset, deadline, ref times, .. } = task;
+                see("a tick short", deadline == task.least_deadline() - 1);
+                see("a tick short, far", deadline == task.least_deadline() - 1 && is_far(&task));
+                see("below the offset", deadline < offset);
+                see("enough for the offset", deadline == offset);
+                see("enough for mode 0", deadline >= offset + times[0]);
+                see("enough if cut to 24 bits", deadline >= task.least_deadline() % (1 << 24));
+                see("the first task", place == 139);
+                see("the last task", is_last);
+                see("in between", place > 139 && !is_last);
+            }
+            Err(_) => (),
+        }
+    }
+    assert!(seen.values().all(|count| 400 * count > 4000), "{seen:?}");
+}
+
+/// Which of two faults counts where one is a deadline that nobody could keep.
+#[test]
+fn such_deadlines_come_with_every_other_fault() {
+    let numbers = |damage: Damage| -> BTreeSet<u32> {
+        let number = |index| {
+            let random = &mut Random::of(11, index);
+            let table = table(random, TableKind::Small);
+            read(&damaged(random, &table, damage)).expect_err("refused").number
+        };
+        (0..300).map(number).collect()
+    };
+    assert_eq!(numbers(Damage::TooSoon), [14].into());
+    assert_eq!(numbers(Damage::TooSoonTwice), [14].into());
+    assert_eq!(numbers(Damage::TooSoonAndCut), [1, 14].into());
+    assert_eq!(numbers(Damage::TooSoonAndNoTime), [9].into());
+    assert_eq!(numbers(Damage::TooSoonAndBadField), [5, 6, 7, 8, 9, 14].into());
+    assert_eq!(numbers(Damage::TooSoonAndBadEnd), [14].into());
+}
+
+/// Each refusal in one of 200 images, each code in one of 80 tasks, and no more spent budgets than one in five. Refusal 14
+/// comes in one of 20 images, and code 20 in one of ten tasks. Some chains are long, and some budgets end in one, else an
+/// error behind its first evaluations would not show.
 #[test]
 fn every_answer_comes_often() {
     let (mut refused, mut codes, mut longest) = (BTreeMap::new(), BTreeMap::new(), BTreeMap::new());
@@ -73,12 +146,13 @@ fn every_answer_comes_often() {
     }
     let tasks: i32 = codes.values().sum();
     assert!((1..=11).all(|number| refused.get(&number).is_some_and(|count| 200 * count > 2000)), "{refused:?}");
+    assert!(20 * refused[&14] > 2000 && 10 * codes[&20] > tasks, "{refused:?} {codes:?}");
     assert!(
         [0, 20, 21, 22, 23].iter().all(|code| codes.get(code).is_some_and(|count| 80 * count > tasks)),
         "{codes:?}"
     );
     assert!(5 * codes[&23] < tasks, "{codes:?}");
-    assert!(longest[&0] > 1000 && longest[&20] > 1000 && longest[&23] > 50_000, "{longest:?}");
+    assert!(longest[&0] > 1000 && longest[&20] > 1000 && longest[&23] > 30_000, "{longest:?}");
 }
 
 #[test]

@@ -1,4 +1,4 @@
-//! The numbers 1 to 11, each at its place and before the faults that come after it.
+//! The numbers 1 to 11 and 14, each at its place and before the faults that come after it.
 
 use super::*;
 use crate::draft::{fields, image, pack, place, Field, Kind};
@@ -101,6 +101,94 @@ fn no_time_in_any_mode_is_9_at_the_first_time() {
     assert_eq!(refused(&image(&table)[..last_time / 8 + 2]), (1, last_time as u32));
     // A zero in one mode is no fault.
     assert!(read(&image(&above_lower(20, 20, vec![task(0, &[0, 1], 9)], 1))).is_ok());
+}
+
+/// S with this deadline of its task 1, whose offset is 4 and whose time is 3.
+fn s_with_deadline(deadline: i64) -> Vec<Field> {
+    let mut fields = fields(&s());
+    let index = indices(&fields, Kind::Deadline)[1];
+    fields[index].value = deadline;
+    fields
+}
+
+#[test]
+fn a_deadline_below_offset_plus_time_is_14_at_the_deadline() {
+    for deadline in [1, 3, 4, 5, 6] {
+        assert_eq!(refused(&pack(&s_with_deadline(deadline))), (14, 269), "{deadline}");
+    }
+    for deadline in [7, 8, (1 << 26) - 1] {
+        assert!(read(&pack(&s_with_deadline(deadline))).is_ok(), "{deadline}");
+    }
+    assert_eq!(refused(&pack(&s_with_deadline(0))), (8, 269));
+}
+
+/// Offset 10, and times whose greatest is in any of three modes.
+#[test]
+fn the_greatest_time_of_all_modes_counts() {
+    for times in [[5, 1, 0], [1, 5, 0], [0, 1, 5], [5, 5, 5]] {
+        let due = |deadline| alone(Task { deadline, ..task(10, &times, 1) });
+        assert_eq!(refused(&image(&due(14))), (14, 139), "{times:?}");
+        assert!(read(&image(&due(15))).is_ok(), "{times:?}");
+    }
+}
+
+/// The sum may need 25 bits, and the deadline has 26.
+#[test]
+fn a_sum_beyond_24_bits_counts_whole() {
+    let most = (1 << 24) - 1;
+    for (offset, time) in [(most, 1), (1, most), (most, 2), (most, most), (most - 1, most), (1 << 23, 1 << 23)] {
+        let due = |deadline| alone(Task { deadline, ..task(offset, &[time], 1) });
+        for deadline in [1, (offset + time) % (1 << 24), offset, time, offset + time - 1] {
+            let number = if deadline == 0 { 8 } else { 14 };
+            assert_eq!(refused(&image(&due(deadline))), (number, 139), "{offset} {time} {deadline}");
+        }
+        for deadline in [offset + time, 1 << 25, (1 << 26) - 1] {
+            assert!(read(&image(&due(deadline))).is_ok(), "{offset} {time} {deadline}");
+        }
+    }
+}
+
+/// S cut in or behind the last time of task 1, which ends 327 bits in.
+#[test]
+fn a_cut_in_the_last_time_comes_before_14() {
+    let short = pack(&s_with_deadline(6));
+    for length in 38..=40 {
+        assert_eq!(refused(&short[..length]), (1, 303), "{length} bytes");
+    }
+    for length in 41..=61 {
+        assert_eq!(refused(&short[..length]), (14, 269), "{length} bytes");
+    }
+}
+
+/// Beside 14 of task 1: a fault before it, of the task itself, or behind it.
+#[test]
+fn faults_before_14_and_behind_it() {
+    let short = s_with_deadline(3);
+    let with = |kind: Kind, which: usize, value: i64| {
+        let mut fields = short.clone();
+        fields[indices(&short, kind)[which]].value = value;
+        refused(&pack(&fields))
+    };
+    assert_eq!(with(Kind::Period, 0, 15), (5, 34));
+    assert_eq!(with(Kind::Deadline, 0, 0), (8, 139));
+    assert_eq!(with(Kind::Time, 0, 0), (9, 173));
+    assert_eq!(with(Kind::Deadline, 0, 1), (14, 139));
+    assert_eq!(with(Kind::Time, 1, 0), (9, 303));
+    let behind = [
+        (Kind::Period, 1, 15),
+        (Kind::ModeCount, 1, 9),
+        (Kind::TaskCount, 1, 0),
+        (Kind::Deadline, 2, 0),
+        (Kind::Deadline, 2, 1),
+        (Kind::Time, 2, 0),
+    ];
+    for (kind, which, value) in behind {
+        assert_eq!(with(kind, which, value), (14, 269), "{kind:?}");
+    }
+    let mut padded = pack(&short);
+    padded[61] |= 1;
+    assert_eq!(refused(&padded), (14, 269));
+    assert_eq!(refused(&[pack(&short), vec![0]].concat()), (14, 269));
 }
 
 #[test]

@@ -68,7 +68,7 @@ fn charges_of_s() {
 /// Period 1 and the longest times: 2^32 − 1 jobs of each task.
 #[test]
 fn a_charge_may_need_64_bits() {
-    let long = |jitter| Task { jitter, ..task(0, &[Table::HORIZON], 9) };
+    let long = |jitter| Task { jitter, deadline: Table::HORIZON, ..task(0, &[Table::HORIZON], 9) };
     let others = transaction(1, vec![long(0), long(Table::HORIZON)]);
     let table = Table { frame: 1, transactions: vec![transaction(1, vec![task(0, &[1], 1)]), others] };
     let jobs = 2 * (u32::MAX as i64) + Table::HORIZON;

@@ -4,7 +4,7 @@ use super::*;
 use crate::compare::hex;
 use crate::draft;
 use crate::image::{read, Refusal};
-use crate::write::row::{row_of, Head, Lent, CELLS};
+use crate::write::row::{row_of, Body, Head, Lent, CELLS};
 use crate::write::writer::{image, write};
 use crate::write::{cases, stream};
 use std::collections::BTreeSet;
@@ -118,6 +118,50 @@ fn the_readers_numbers_at_their_fields() {
     assert_eq!(refused(&[(SECOND_HEAD + 3, 32)]), (29, 355));
     assert_eq!(refused(&[(TASKS[1] + 3, 0)]), (8, 269));
     assert_eq!(refused(&[(TASKS[1] + TIMES, 0)]), (9, 303));
+    for deadline in [1, 3, 4, 6] {
+        assert_eq!(refused(&[(TASKS[1] + 3, deadline)]), (14, 269));
+    }
+    for (offset, time) in [(0xFFFFFF, 1), (1, 0xFFFFFF), (0xFFFFFF, 0xFFFFFF)] {
+        for deadline in [1, 0xFFFFFF, offset + time - 1] {
+            let changes = [(TASKS[2], offset), (TASKS[2] + 3, deadline), (TASKS[2] + TIMES, time)];
+            assert_eq!(refused(&changes), (14, 432), "{offset} {time} {deadline}");
+        }
+    }
+}
+
+/// Task 1 of S has offset 4 and time 3; the second mode of its transaction has a longer time for it.
+#[test]
+fn a_deadline_that_is_just_enough_is_written() {
+    let mut cells = row_of(&s());
+    cells[TASKS[1] + 3] = 7;
+    assert!(written(&cells).is_ok());
+    cells[6] = 2;
+    cells[TASKS[1] + TIMES + 1] = 5;
+    // What is beyond the modes is no time of the task.
+    cells[TASKS[1] + TIMES + 2] = 6;
+    for deadline in [7, 8] {
+        cells[TASKS[1] + 3] = deadline;
+        assert_eq!(written(&cells), Err((14, 67 + 154 + 72)));
+    }
+    cells[TASKS[1] + 3] = 9;
+    assert!(written(&cells).is_ok());
+}
+
+/// Beside 14 of task 1: a number too large in each of its fields, a fault before it, or behind it.
+#[test]
+fn faults_before_14_and_behind_it() {
+    let with = |cell: usize, number: u32| refused(&[(TASKS[1] + 3, 3), (cell, number)]);
+    for (cell, place) in [(0, 197), (1, 221), (2, 245), (4, 295), (TIMES, 303)] {
+        assert_eq!(with(TASKS[1] + cell, 1 << 24), (29, place));
+    }
+    assert_eq!(with(TASKS[1] + 3, 1 << 26), (29, 269));
+    assert_eq!(with(TASKS[1] + 3, 0), (8, 269));
+    assert_eq!(with(TASKS[1] + TIMES, 0), (9, 303));
+    assert_eq!(with(TASKS[0] + 3, 1), (14, 139));
+    assert_eq!(with(5, 15), (5, 34));
+    for (cell, number) in [(SECOND_HEAD, 15), (SECOND_HEAD, 1 << 24), (TASKS[2], 1 << 24), (TASKS[2] + 3, 1)] {
+        assert_eq!(with(cell, number), (14, 269));
+    }
 }
 
 #[test]
@@ -199,11 +243,14 @@ fn a_refused_write_leaves_the_buffer_and_the_bytes_beyond_an_image_stay() {
         assert_eq!(buffer, [&image[..], &vec![0xA5; more]].concat());
     }
     // A fault comes before a buffer too short.
-    let faulty = Lent { frame: 0, ..good };
-    for length in [0, 61, 62] {
-        let mut buffer = vec![0xA5; length];
-        assert_eq!(write(&faulty, &mut buffer), Err(Refusal { number: 3, place: 4 }));
-        assert_eq!(buffer, vec![0xA5; length]);
+    let mut too_soon = good.clone();
+    too_soon.bodies[2].deadline = 1;
+    for (faulty, number, place) in [(Lent { frame: 0, ..good }, 3, 4), (too_soon, 14, 432)] {
+        for length in [0, 61, 62] {
+            let mut buffer = vec![0xA5; length];
+            assert_eq!(write(&faulty, &mut buffer), Err(Refusal { number, place }));
+            assert_eq!(buffer, vec![0xA5; length]);
+        }
     }
 }
 
@@ -266,5 +313,44 @@ fn random_rows_meet_every_answer_and_read_back() {
         assert_eq!(image(&Lent::of(&row_of(&table))), Ok(bytes));
         numbers.insert(write(&lent, &mut vec![0; case.length]).map_or_else(|refusal| refusal.number, |_| 0));
     }
-    assert_eq!(numbers, [0, 2, 3, 4, 5, 6, 7, 8, 9, 29, 30].into());
+    assert_eq!(numbers, [0, 2, 3, 4, 5, 6, 7, 8, 9, 14, 29, 30].into());
+}
+
+/// What else is wrong with rows that have a deadline that nobody could keep: behind it, and before it in the same task.
+#[test]
+fn random_rows_have_other_faults_beside_14() {
+    let (mut behind, mut before) = (BTreeSet::new(), BTreeSet::new());
+    for index in 0..4000 {
+        let case = cases::case(7, index);
+        let lent = Lent::of(&case.cells);
+        let with = |change: fn(&mut Body)| {
+            let mut lent = lent.clone();
+            lent.bodies.iter_mut().for_each(change);
+            lent
+        };
+        match image(&lent) {
+            Err(Refusal { number: 14, .. }) => {
+                let kept = with(|body| body.deadline = 0x3FFFFFF);
+                behind.insert(write(&kept, &mut vec![0; case.length]).map_or_else(|refusal| refusal.number, |_| 0));
+            }
+            Err(Refusal { number: number @ (9 | 29), place }) => {
+                let repaired = with(|body| {
+                    body.offset &= 0xFFFFFF;
+                    body.jitter &= 0xFFFFFF;
+                    body.blocking &= 0xFFFFFF;
+                    body.deadline &= 0x3FFFFFF;
+                    body.priority &= 0xFF;
+                    body.times.iter_mut().for_each(|time| *time = (*time & 0xFFFFFF).max(1));
+                });
+                if let Err(Refusal { number: 14, place: deadline }) = image(&repaired) {
+                    before.insert((number, place as i64 - deadline as i64));
+                }
+            }
+            _ => (),
+        }
+    }
+    assert!(behind.is_superset(&[0, 5, 6, 7, 9, 29, 30].into()), "{behind:?}");
+    // Offset, jitter, blocking, deadline, priority and first time, by their distance from the deadline.
+    let fields = [-72, -48, -24, 0, 26, 34].map(|distance| (29, distance));
+    assert!(before.is_superset(&fields.into()) && before.contains(&(9, 34)), "{before:?}");
 }

@@ -3,6 +3,7 @@
 
 use crate::draft::{self, Kind};
 use crate::generate::damage::refused_number;
+use crate::generate::deadline::put_too_soon;
 use crate::generate::tables::{self, FORMER_TRANSACTIONS};
 use crate::random::Random;
 use crate::table::{Table, Transaction};
@@ -52,6 +53,19 @@ const FAULTS: &[Fault] = &[
     Fault::RandomFrom,
 ];
 
+/// Those that come before a deadline of the same task that nobody could keep.
+const FAULTS_OF_A_TASK: &[Fault] = &[
+    Fault::TooLarge(Kind::Offset),
+    Fault::TooLarge(Kind::Jitter),
+    Fault::TooLarge(Kind::Blocking),
+    Fault::TooLarge(Kind::Deadline),
+    Fault::TooLarge(Kind::Priority),
+    Fault::TooLarge(Kind::Time),
+    Fault::Refused(Kind::Deadline),
+    Fault::NoTime,
+    Fault::NoTimeButTooLarge,
+];
+
 pub fn case(seed: u64, index: u64) -> Case {
     let random = &mut Random::of(seed, index);
     if random.percent(6) {
@@ -64,6 +78,7 @@ pub fn case(seed: u64, index: u64) -> Case {
     if is_crowded {
         table = crowded(random, &table);
     }
+    let too_soon = random.percent(20).then(|| put_too_soon(random, &mut table));
     let fields = fields(&table);
     let mut cells = row_of(&table);
     let faults = match random.within(1, 100) {
@@ -74,6 +89,10 @@ pub fn case(seed: u64, index: u64) -> Case {
     for _ in 0..faults {
         let fault = random.pick(FAULTS);
         spoil(random, &mut cells, &fields, fault);
+    }
+    if let Some((v, j)) = too_soon.filter(|_| random.percent(30)) {
+        let fault = random.pick(FAULTS_OF_A_TASK);
+        spoil(random, &mut cells, fields_of_task(&table, &fields, v, j), fault);
     }
     if random.percent(60) {
         litter(random, &mut cells, &fields);
@@ -156,6 +175,14 @@ fn count(random: &mut Random, kind: Kind) -> usize {
         Kind::TransactionCount => random.pick(&[some, FORMER_TRANSACTIONS, FORMER_TRANSACTIONS + 1, most - 1, most]),
         _ => some,
     }
+}
+
+/// Those of task j of transaction v.
+fn fields_of_task<'f>(table: &Table, fields: &'f [(Kind, usize)], v: usize, j: usize) -> &'f [(Kind, usize)] {
+    let mut offsets = (0..fields.len()).filter(|&index| fields[index].0 == Kind::Offset);
+    let first = offsets.nth(table.number(v, j)).expect("an offset of each task");
+    let times = fields[first..].iter().position(|field| field.0 == Kind::Time).expect("a mode");
+    &fields[first..first + times + table.transactions[v].modes]
 }
 
 /// The cell of some field of that kind.

@@ -76,15 +76,21 @@ fn task(bits: &mut Bits, body: &Body, modes: usize) -> Result<(), Refusal> {
     bits.field(body.offset, 24)?;
     bits.field(body.jitter, 24)?;
     bits.field(body.blocking, 24)?;
+    let deadline_place = bits.bits.len();
     bits.ruled(body.deadline, 26, body.deadline != 0, 8)?;
     bits.field(body.priority, 8)?;
     let first_time = bits.bits.len();
     for &time in &body.times[..modes] {
         bits.field(time, 24)?;
     }
+    let greatest_time = *body.times[..modes].iter().max().expect("a mode");
     // 'After its last time', at 'its first time'.
-    if body.times[..modes].iter().all(|&time| time == 0) {
+    if greatest_time == 0 {
         return refuse(9, first_time);
+    }
+    // 'The writer follows': number 14, after 9.
+    if body.deadline < body.offset + greatest_time {
+        return refuse(14, deadline_place);
     }
     Ok(())
 }
