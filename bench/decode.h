@@ -1,4 +1,4 @@
-/* Reading an image into the decoded table of stream.h: the checks of document 01, and either way of bits.h to take a field. */
+/* Reading an image into the decoded table of stream.h: the checks of documents 01 and 02, and either way of bits.h to take a field. */
 
 #ifndef BENCH_DECODE_H
 #define BENCH_DECODE_H
@@ -12,21 +12,26 @@ INLINED int read_task(struct bits *bits, taking *field, struct table *table, int
     if ((table->offset[j] = field(bits, 24)) < 0) return 1;
     if ((table->jitter[j] = field(bits, 24)) < 0) return 1;
     if ((table->blocking[j] = field(bits, 24)) < 0) return 1;
+    size_t deadline = bits->at;
     if ((table->deadline[j] = field(bits, 26)) < 0) return 1;
     if (table->deadline[j] == 0) return 8;
     if ((priority = field(bits, 8)) < 0) return 1;
     table->priority[j] = (int)priority;
     size_t first_time = bits->at;
-    int runs = 0;
+    int64_t longest = 0;
     for (int mode = 0; mode < modes; mode++) {
         int64_t time = field(bits, 24);
         if (time < 0) return 1;
         table->time[j][mode] = time;
-        runs |= time > 0;
+        if (longest < time) longest = time;
     }
-    if (!runs) {
+    if (longest == 0) {
         bits->start = first_time;
         return 9;
+    }
+    if (is_short(table->deadline[j], table->offset[j], longest)) {
+        bits->start = deadline;
+        return 14;
     }
     return 0;
 }

@@ -24,6 +24,8 @@ enum { TOO_LARGE = 29, TOO_SHORT = 30 };
 
 static uint64_t answer(uint32_t number, size_t value) { return (uint64_t)number << 32 | value; }
 
+static uint32_t greater(uint32_t x, uint32_t y) { return x < y ? y : x; }
+
 /* Reading: a field into its cell. Returns the number of the refusal, or 0; bits->start is then the place. */
 
 INLINED int take(struct bits *bits, taking *field, uint32_t *cell, unsigned width) {
@@ -35,18 +37,23 @@ INLINED int take(struct bits *bits, taking *field, uint32_t *cell, unsigned widt
 INLINED int read_task(struct bits *bits, taking *field, uint32_t *body, uint32_t modes) {
     if (take(bits, field, &body[OFFSET], 24) || take(bits, field, &body[JITTER], 24)) return 1;
     if (take(bits, field, &body[BLOCKING], 24)) return 1;
+    size_t deadline = bits->at;
     if (take(bits, field, &body[DEADLINE], 26)) return 1;
     if (body[DEADLINE] == 0) return 8;
     if (take(bits, field, &body[PRIORITY], 8)) return 1;
     size_t first_time = bits->at;
-    uint32_t runs = 0;
+    uint32_t longest = 0;
     for (uint32_t mode = 0; mode < modes; mode++) {
         if (take(bits, field, &body[TIMES + mode], 24)) return 1;
-        runs |= body[TIMES + mode];
+        longest = greater(longest, body[TIMES + mode]);
     }
-    if (runs == 0) {
+    if (longest == 0) {
         bits->start = first_time;
         return 9;
+    }
+    if (is_short(body[DEADLINE], body[OFFSET], longest)) {
+        bits->start = deadline;
+        return 14;
     }
     return 0;
 }
@@ -131,12 +138,12 @@ static uint32_t put_ruled(struct image *image, uint32_t value, unsigned width, i
 
 /* One task. Returns the number of the refusal, or 0; *at is then the place. */
 static uint32_t write_task(struct image *image, const uint32_t *body, uint32_t modes, size_t *at) {
-    uint32_t refusal, runs = 0;
+    uint32_t refusal, longest = 0;
     for (int i = OFFSET; i <= BLOCKING; i++) {
         *at = place(image);
         if ((refusal = put(image, body[i], 24)) != 0) return refusal;
     }
-    *at = place(image);
+    size_t deadline = *at = place(image);
     if ((refusal = put_ruled(image, body[DEADLINE], 26, body[DEADLINE] != 0, 8)) != 0) return refusal;
     *at = place(image);
     if ((refusal = put(image, body[PRIORITY], 8)) != 0) return refusal;
@@ -144,10 +151,11 @@ static uint32_t write_task(struct image *image, const uint32_t *body, uint32_t m
     for (uint32_t mode = 0; mode < modes; mode++) {
         *at = place(image);
         if ((refusal = put(image, body[TIMES + mode], 24)) != 0) return refusal;
-        runs |= body[TIMES + mode];
+        longest = greater(longest, body[TIMES + mode]);
     }
-    *at = first_time;
-    return runs == 0 ? 9 : 0;
+    *at = longest == 0 ? first_time : deadline;
+    if (longest == 0) return 9;
+    return is_short(body[DEADLINE], body[OFFSET], longest) ? 14 : 0;
 }
 
 static uint32_t write_row(struct image *image, const uint32_t *cells, size_t *at) {

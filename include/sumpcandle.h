@@ -32,7 +32,7 @@ uint64_t sumpcandle_response(const uint8_t *image, size_t length, uint32_t task,
 /* The answers for every task, into cells: SUMPCANDLE_RESULT_CELLS for each task, in the order of their numbers, from task k's first at
    k * SUMPCANDLE_RESULT_CELLS. The budget holds for each task afresh.
 
-   Upper 32 bits: 0, or a refusal, 1 to 12. Lower 32 bits: with a refusal of the image its place, a bit position; else 0. With 0 every
+   Upper 32 bits: 0, or a refusal, 1 to 12 or 14. Lower 32 bits: with a refusal of the image its place, a bit position; else 0. With 0 every
    task of the table has its cells, and the cells behind them stay as they were. With a refusal every cell stays as it was.
 
    `image` points to `length` bytes, `cells` to `count` cells, at an address that is a multiple of 4. SUMPCANDLE_TASKS *
@@ -41,7 +41,7 @@ uint64_t sumpcandle_cells(const uint8_t *image, size_t length, uint32_t budget, 
 
 /* Who pushed a task: what the bound that sumpcandle_response gives is made of, into cells.
 
-   Upper 32 bits: 0, or a refusal, 1 to 11 or 13. Lower 32 bits: with 0 a case, SUMPCANDLE_GIVEN or SUMPCANDLE_NO_BOUND; with a
+   Upper 32 bits: 0, or a refusal, 1 to 11, 13 or 14. Lower 32 bits: with 0 a case, SUMPCANDLE_GIVEN or SUMPCANDLE_NO_BOUND; with a
    refusal of the image its place, a bit position; else 0. With SUMPCANDLE_GIVEN, so where the answer is 0, every one of the
    SUMPCANDLE_PARTS_CELLS cells is written. Else every cell stays as it was.
 
@@ -60,7 +60,7 @@ uint64_t sumpcandle_parts(const uint8_t *image, size_t length, uint32_t task, ui
 /* The part of one other transaction in that bound: the charge, the mode and the candidate that sumpcandle_charge gives at the
    completion, into cells. Transactions are numbered from 0, in image order.
 
-   Upper 32 bits: 0, or a refusal, 1 to 11 or 13. Lower 32 bits: with 0 a case, one of those below; with a refusal of the image
+   Upper 32 bits: 0, or a refusal, 1 to 11, 13 or 14. Lower 32 bits: with 0 a case, one of those below; with a refusal of the image
    its place, a bit position; else 0. With SUMPCANDLE_GIVEN, so where the answer is 0, every one of the SUMPCANDLE_CHARGE_CELLS
    cells is written. Else every cell stays as it was. A task without a bound has SUMPCANDLE_NO_BOUND for every transaction.
 
@@ -83,7 +83,7 @@ uint64_t sumpcandle_charge(const uint8_t *image, size_t length, uint32_t task, u
 
 /* The table of an image, into cells.
 
-   Upper 32 bits: 0, or a refusal, 1 to 11. Lower 32 bits: the place of the refusal, a bit position; else 0. With 0 every one
+   Upper 32 bits: 0, or a refusal, 1 to 11 or 14. Lower 32 bits: the place of the refusal, a bit position; else 0. With 0 every one
    of the SUMPCANDLE_TABLE_CELLS cells is written, those that the table does not use with 0. With a refusal every cell stays as
    it was.
 
@@ -92,12 +92,12 @@ uint64_t sumpcandle_read(const uint8_t *image, size_t length, uint32_t *cells);
 
 /* The image of the table in the cells, into a buffer.
 
-   Upper 32 bits: 0, or a refusal, 2 to 9, 29 or 30. Lower 32 bits: the length of the image in bytes; with a refusal its place,
+   Upper 32 bits: 0, or a refusal, 2 to 9, 14, 29 or 30. Lower 32 bits: the length of the image in bytes; with a refusal its place,
    the bit position that the field would have had, and 0 with 30. With 0 the bytes of the buffer beyond the image stay as they
    were. With a refusal every byte of the buffer stays as it was.
 
    The first fault in the order of the image counts. Of one field, 29 comes before its other rule; of a task, 29 of any time
-   comes before 9. 30 comes after all others.
+   comes before 9, and 9 before 14. 30 comes after all others.
 
    What was written is accepted by sumpcandle_read, which gives the same table; what was read is written as the same bytes.
 
@@ -201,7 +201,7 @@ enum {
     SUMPCANDLE_OFFSET_CELL = 0,
     SUMPCANDLE_JITTER_CELL = 1,
     SUMPCANDLE_BLOCKING_CELL = 2,
-    SUMPCANDLE_DEADLINE_CELL = 3, /* at most 67,108,863 */
+    SUMPCANDLE_DEADLINE_CELL = 3, /* at most 67,108,863; at least the offset plus the greatest time */
     SUMPCANDLE_PRIORITY_CELL = 4, /* at most 255; a greater one is more urgent */
     SUMPCANDLE_OWNER_CELL = 5,    /* the number of its transaction */
     SUMPCANDLE_TIMES_CELL = 6     /* the execution time in mode 0; behind it those in the other modes */
@@ -228,8 +228,9 @@ enum {
     SUMPCANDLE_BUDGET_SPENT = 23  /* not decided: one more evaluation was due */
 };
 
-/* Refusals: the first fault of the image, or of the table to be written; or no such task. 2 to 9 are the same in an image and
-   in a table, at the same place. */
+/* Refusals: the first fault of the image, or of the table to be written; or no such task. 2 to 9 and 14 are the same in an image
+   and in a table, at the same place. 14 is looked for behind a task's last time, and its place is that of the task's deadline: so it
+   comes behind any other fault of that task, and before any of a later one. */
 enum {
     SUMPCANDLE_CUT = 1,               /* the image ends inside a field */
     SUMPCANDLE_EDITION = 2,           /* edition is not 1 */
@@ -244,6 +245,7 @@ enum {
     SUMPCANDLE_BYTES_FOLLOW = 11,     /* bytes follow the table */
     SUMPCANDLE_NO_ROOM = 12,          /* the image is good, and there are fewer cells than its tasks need */
     SUMPCANDLE_NO_TASK = 13,          /* the image is good and has no task of that number */
+    SUMPCANDLE_DEADLINE_SHORT = 14,   /* a deadline below the task's offset plus its greatest time: nobody could keep it */
     SUMPCANDLE_TOO_LARGE = 29,        /* a number of the table is too large for its field */
     SUMPCANDLE_BUFFER_SHORT = 30      /* the table is good, and its image is longer than the buffer */
 };

@@ -55,7 +55,7 @@ no-overload : ¬ (Overload S 1 0)
 unfolding computing
 no-overload o = omega (arith, o)
 
-overload-of-11 : Overload (lone 10 (plain 0 11 1 10)) 0 0
+overload-of-11 : Overload (lone 10 (plain 0 11 1 11)) 0 0
 unfolding computing
 overload-of-11 = lit< tt
 

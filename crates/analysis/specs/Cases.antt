@@ -93,7 +93,7 @@ unfolding computing idle-mode
 idle-candidate = refl
 
 -- L may be the horizon itself; one tick more is past it
-horizon : answer imposed (lone 16_777_215 (plain 0 16_777_215 1 20)) 0 0 100 ∷ answer imposed (lone 16_777_215 (task 0 0 1 20 1 (16_777_215 ∷ []))) 0 0 100 ∷ [] ≡ bound 16_777_215 3 (by 0 0 0) ∷ beyond 1 ∷ []
+horizon : answer imposed (lone 16_777_215 (plain 0 16_777_215 1 16_777_215)) 0 0 100 ∷ answer imposed (lone 16_777_215 (task 0 0 1 16_777_215 1 (16_777_215 ∷ []))) 0 0 100 ∷ [] ≡ bound 16_777_215 3 (by 0 0 0) ∷ beyond 1 ∷ []
 unfolding computing
 horizon = refl
 

@@ -72,7 +72,7 @@ fn response_of(work: &mut [u32; Work::CELLS], task: usize, budget: u32) -> u64
     told::pair(Refusal::NoTask.number(), 0)
 }
 
-// The C host's number: code × 2^32 + bound of one task; for 1 to 11 and 13 that number × 2^32 + its place.
+// The C host's number: code × 2^32 + bound of one task; for 1 to 11, 13 and 14 that number × 2^32 + its place.
 pub fn response(image: &[u8], task: u32, budget: u32) -> u64
     ensures { λ r. ⌜ Responds (now (image .entry)) task budget r ⌝ }
 {

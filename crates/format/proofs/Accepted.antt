@@ -8,6 +8,7 @@ use borrow.Author.Tests.{leb-true, eqb-true}
 use Rattle.bits.specs.Bits.{valueAt}
 use Rattle.table.specs.Limits.{limits, tasksInAll, timeWidth}
 use Rattle.table.specs.Fields.{TaskField, widthInHeader, widthInHead, widthInTask}
+use Rattle.table.specs.Rules.Deadlines.{keepable}
 use Rattle.table.proofs.Rules as rules
 use Rattle.refusals.specs.declared.Answer.the-variants.{Accepted}
 use Rattle.refusals.proofs.Findings.{then-joins, none-first, none-second, held}
@@ -26,7 +27,7 @@ SoundHead image before p = rules.SoundHead limits (frameIn image) before (lookAt
 
 -- the task of m modes that starts at q
 abbrev pub SoundTask : List ℕ → (m q : ℕ) → Type 0
-SoundTask image m q = rules.SoundTask m (lookAt image (placeInTask q) widthInTask)
+SoundTask image m q = rules.SoundTask keepable m (lookAt image (placeInTask q) widthInTask)
 
 pub sound-header : (image : List ℕ) → headerFault image ≡ Accepted → SoundHeader image
 sound-header image h = rules.sound-header limits then-joins (lookAt image placeInHeader widthInHeader) h
@@ -59,9 +60,9 @@ unfolding tasksBefore
 few-before image u each = reached.few-before limits (imageLook image) u each
 
 module _ (image : List ℕ) (ok : IsAccepted image) where
-  table : rules.SoundTable limits (imageLook image)
+  table : rules.SoundTable limits keepable (imageLook image)
   unfolding imageFault
-  table = rules.sound-table limits then-joins (imageLook image) (none-first _ _ ok)
+  table = rules.sound-table limits keepable then-joins (imageLook image) (none-first _ _ ok)
 
   pub header : SoundHeader image
   header = table .header

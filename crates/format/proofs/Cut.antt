@@ -15,11 +15,11 @@ use Rattle.refusals.specs.declared.Refusal.the-variants.{EndsInside, PaddingSet
 use Rattle.refusals.specs.Answer.{_then_, foundOf, firstOf, checked}
 use Rattle.refusals.proofs.Findings.{then-same, first-same}
 use Rattle.bits.specs.Bits.{bitAt, valueAt}
-use Rattle.table.specs.Sum.{sum}
+use Rattle.table.specs.Sum.{sum, greatest}
 use Rattle.table.specs.Limits.{limits, transactionsMost, frameWidth, transactionsWidth, modesWidth, tasksWidth, timeWidth}
 use Rattle.table.specs.Fields.{HeaderField, HeadField, widthInHeader, widthInHead}
 use Rattle.table.specs.Rules.{headerRules, headRules, taskRules}
-use Rattle.table.proofs.Sum.{sum-ext}
+use Rattle.table.proofs.Sum.{sum-ext, greatest-ext}
 use Rattle.format.specs.Places.{frameAt, countAt, modesAt, tasksAt, jitterAt, blockingAt, deadlineAt, priorityAt, timeAt, headWidth, placeInHeader, placeInHead, taskWidth, taskAt, past, start, bytesTo, longestImage}
 use Rattle.format.specs.Said.{countIn, modesIn, tasksIn, tasksBefore}
 use Rattle.format.specs.Fault.{endsAt, lookAt, headerFault, headFault, taskFault, transactionFault, endFault, bodyFault, imageFault}
@@ -95,6 +95,8 @@ module _ (image : List ℕ) (long : longestImage + 1 ≤ length image) where
         same-end (priorityAt q) 8 (omega arith),
         ends,
         times,
+        same-value q 24 (omega arith),
+        greatest-time,
       )
     where
       ends : foundOf _then_ m (λ k. endsAt cut (timeAt q k) timeWidth) ≡ foundOf _then_ m (λ k. endsAt image (timeAt q k) timeWidth)
@@ -102,6 +104,9 @@ module _ (image : List ℕ) (long : longestImage + 1 ≤ length image) where
 
       times : sum m (λ k. valueAt cut (timeAt q k) timeWidth) ≡ sum m (λ k. valueAt image (timeAt q k) timeWidth)
       times = sum-ext m (λ k below. same-value (timeAt q k) timeWidth (omega arith))
+
+      greatest-time : greatest m (λ k. valueAt cut (timeAt q k) timeWidth) ≡ greatest m (λ k. valueAt image (timeAt q k) timeWidth)
+      greatest-time = greatest-ext m (λ k below. same-value (timeAt q k) timeWidth (omega arith))
 
   -- ---- a transaction, where the heads of those before it are sound
 

@@ -5,6 +5,7 @@ use mathlib.Core.List.{List}
 use Prim.Native.Nat.{ℕ}
 use Rattle.table.specs.Limits.{limits}
 use Rattle.table.specs.Rules.{transactionRules, bodyRules, tableRules}
+use Rattle.table.specs.Rules.Deadlines.{keepable}
 use Rattle.refusals.specs.Answer.{_then_, firstOf}
 use Rattle.refusals.proofs.Findings.{then-assoc}
 use Rattle.format.specs.Places.{taskAt, start}
@@ -16,7 +17,7 @@ module _ (image : List ℕ) where
   unfolding imageFault tableRules
   image-parts = then-assoc _ _ _
 
-  pub body-parts : bodyRules _then_ limits (imageLook image) ≡ firstOf (countIn image) (λ u. transactionFault image (tasksBefore image u) (start image u))
+  pub body-parts : bodyRules _then_ limits keepable (imageLook image) ≡ firstOf (countIn image) (λ u. transactionFault image (tasksBefore image u) (start image u))
   unfolding bodyRules tasksBefore firstOf
   body-parts = refl
 

@@ -1,6 +1,7 @@
 pub mod Places
 pub mod Faults
 pub mod Raised
+pub mod Keepable
 pub mod Reached
 pub mod Accepted
 pub mod Sound

@@ -10,6 +10,7 @@ use Rattle.table.specs.Sum.{sum}
 use Rattle.table.specs.Limits.{limits, transactionsMost, modesMost, tasksInAll}
 use Rattle.table.specs.Fields.{HeaderField, HeadField, TaskField, Field, IsTaskField}
 use Rattle.table.specs.Rules.{Look, tableRules}
+use Rattle.table.specs.Rules.Deadlines.{keepable}
 use Rattle.table.proofs.Rules.{SoundTable, sound-table}
 use Rattle.refusals.specs.declared.Refusal.{Refusal}
 use Rattle.refusals.specs.declared.Answer.{Answer}
@@ -109,8 +110,8 @@ module _ {look : Look Field} {begin : ℕ → ℕ} (placed : Placed look begin) 
       rw (placed .task u j f) (in-task q m f (here .1) fits)
 
   -- a finding by the rules is not further, where a field's own finding is at the field's place
-  pub rules-within : ((f : Field) → look .place f ≤ most → Within (look .finding f)) → Within (tableRules _then_ limits look)
-  rules-within own = only-table limits look Near (λ f here. own f (place-reach f here)) (λ f here r is. place-reach f here)
+  pub rules-within : ((f : Field) → look .place f ≤ most → Within (look .finding f)) → Within (tableRules _then_ limits keepable look)
+  rules-within own = only-table limits look keepable Near (λ f here. own f (place-reach f here)) (λ f here r is. place-reach f here)
 
 -- ---- an image
 
@@ -145,7 +146,7 @@ module _ (image : List ℕ) where
       → v < n
       → Sound v
   unfolding tasksBefore
-  sound-before n clear v h = heads-hold limits (imageLook image) n clear v h
+  sound-before n clear v h = heads-hold limits (imageLook image) keepable n clear v h
 
   -- no accepted image is longer than the longest
   pub longest : IsAccepted image → length image ≤ longestImage
@@ -162,7 +163,7 @@ module _ (image : List ℕ) where
   image-place =
       only-then Near _ _ (rules-within placed-image (λ f h. only-checked Near _ _ _ h))
       (λ clear.
-      let sound : SoundTable limits (imageLook image) = sound-table limits then-joins (imageLook image) clear in
+      let sound : SoundTable limits keepable (imageLook image) = sound-table limits keepable then-joins (imageLook image) clear in
       end-place (start image (countIn image))
       (all-reach placed-image (countIn image) (sound .header .few) (λ v below. sound .transaction v below .head)))
 

@@ -10,13 +10,15 @@ use borrow.Author.Tests.{le-leb, leb-true, eqb-true}
 use Rattle.bits.specs.Bits.{isInside}
 use Rattle.refusals.specs.declared.Answer.the-variants.{Accepted}
 use Rattle.refusals.proofs.Findings.{then-joins, holds, both-first, both-second}
-use Rattle.table.specs.Sum.{sum}
+use Rattle.table.specs.Sum.{greatest}
 use Rattle.table.specs.Limits.{limits, modesMost, tasksMost, tasksInAll}
 use Rattle.table.specs.Fields.{HeadField, TaskField, IsTaskField, widthInHead, widthInTask}
 use Rattle.table.specs.Rules.{isBetween, isDivisor}
+use Rattle.table.specs.Rules.Deadlines.{keepable}
+use Rattle.table.proofs.Sum.{greatest-sum}
 use Rattle.table.proofs.Rules as rules
 use Rattle.format.specs.Places.{placeInHead, placeInTask, headWidth, taskWidth}
-use Rattle.format.specs.Said.{frameIn, periodIn, modesIn, tasksIn, deadlineIn, timeIn}
+use Rattle.format.specs.Said.{frameIn, periodIn, modesIn, tasksIn, offsetIn, deadlineIn, timeIn}
 use Rattle.format.specs.Computing.{computing}
 use Rattle.format.specs.Cases.{last}
 use Rattle.format.specs.Fault.{endsAt, lookAt, headFault, taskFault}
@@ -26,11 +28,19 @@ within : (image : List ℕ) (p w q v : ℕ) → isInside image p w ≡ true → 
 within image p w q v whole h = holds _ _ (le-leb (q + v) (8 * length image) (omega (arith, leb-true (p + w) (8 * length image) whole)))
 
 pub whole-task :
-    (image : List ℕ) (m q : ℕ) → isInside image q (taskWidth m) ≡ true → 1 ≤ deadlineIn image q → 1 ≤ sum m (timeIn image q)
+    (image : List ℕ) (m q : ℕ)
+    → isInside image q (taskWidth m) ≡ true
+    → 1 ≤ greatest m (timeIn image q)
+    → offsetIn image q + greatest m (timeIn image q) ≤ deadlineIn image q
     → taskFault image m q ≡ Accepted
-whole-task image m q whole due runs =
-    rules.clear-task limits then-joins m (lookAt image (placeInTask q) widthInTask)
-    (record { there = λ f there. within image q (taskWidth m) _ _ whole (reach f there); due = due; runs = runs })
+whole-task image m q whole runs room =
+    rules.clear-task keepable then-joins m (lookAt image (placeInTask q) widthInTask)
+    (record {
+      there = λ f there. within image q (taskWidth m) _ _ whole (reach f there);
+      due = omega (arith, runs, room);
+      runs = omega (arith, runs, greatest-sum m (timeIn image q));
+      keepable = room;
+    })
   where
     reach : (f : TaskField) → IsTaskField m f → placeInTask q f + widthInTask f ≤ q + taskWidth m
     reach TaskField.offset h = omega arith

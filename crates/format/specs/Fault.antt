@@ -9,7 +9,8 @@ use Rattle.bits.specs.Bits.{valueAt, isInside}
 use Rattle.table.specs.Limits.{Limits, limits}
 use Rattle.table.specs.Fields.{Field, widthInHeader, widthInHead, widthInTask, width}
 use Rattle.table.specs.Fields.Field.{header, head, task}
-use Rattle.table.specs.Rules.{Look, headerRules, headRules, taskRules, transactionRules, bodyRules, tableRules}
+use Rattle.table.specs.Rules.{Look, Deadlines, headerRules, headRules, taskRules, transactionRules, bodyRules, tableRules}
+use Rattle.table.specs.Rules.Deadlines.{keepable}
 use Rattle.refusals.specs.declared.Answer.{Answer}
 use Rattle.refusals.specs.declared.Answer.the-variants.{Accepted}
 use Rattle.refusals.specs.declared.Refusal.the-variants.{EndsInside, PaddingSet, BytesFollow}
@@ -40,12 +41,13 @@ endFault image p =
     checked (eqb (valueAt image p (8 * bytesTo p - p)) 0) PaddingSet p
     then checked (leb (length image) (bytesTo p)) BytesFollow (8 * bytesTo p)
 
--- the first fault under those limits, and under those that there are
-abbrev pub faultUnder : Limits → List ℕ → Answer
-faultUnder most image = tableRules _then_ most (imageLook image) then endFault image (start image (countIn image))
+-- the first fault under those limits, with those deadlines let in; and under the limits that there are, only deadlines that can be
+-- kept let in
+abbrev pub faultUnder : Limits → Deadlines → List ℕ → Answer
+faultUnder most deadlines image = tableRules _then_ most deadlines (imageLook image) then endFault image (start image (countIn image))
 
 unfoldable pub imageFault : List ℕ → Answer
-imageFault image = faultUnder limits image
+imageFault image = faultUnder limits keepable image
 
 -- the image is accepted
 abbrev pub IsAccepted : List ℕ → Type 0
@@ -58,7 +60,7 @@ headerFault image = headerRules _then_ limits (lookAt image placeInHeader widthI
 
 -- the task of m modes that starts at q
 abbrev pub taskFault : List ℕ → (m q : ℕ) → Answer
-taskFault image m q = taskRules _then_ limits m (lookAt image (placeInTask q) widthInTask)
+taskFault image m q = taskRules _then_ keepable m (lookAt image (placeInTask q) widthInTask)
 
 -- the counts and the period of the transaction that starts at p, where `before` tasks stand before it
 abbrev pub headFault : List ℕ → (before p : ℕ) → Answer
@@ -66,9 +68,9 @@ headFault image before p = headRules _then_ limits (frameIn image) before (lookA
 
 abbrev pub transactionFault : List ℕ → (before p : ℕ) → Answer
 transactionFault image before p =
-    transactionRules _then_ limits (frameIn image) before (lookAt image (placeInHead p) widthInHead)
+    transactionRules _then_ limits keepable (frameIn image) before (lookAt image (placeInHead p) widthInHead)
     (λ j. lookAt image (placeInTask (taskAt p (modesIn image p) j)) widthInTask)
 
 -- the transactions, and the end of the image
 abbrev pub bodyFault : List ℕ → Answer
-bodyFault image = bodyRules _then_ limits (imageLook image) then endFault image (start image (countIn image))
+bodyFault image = bodyRules _then_ limits keepable (imageLook image) then endFault image (start image (countIn image))

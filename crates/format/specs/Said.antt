@@ -30,6 +30,9 @@ tasksIn image p = valueAt image (tasksAt p) tasksWidth
 
 -- of the task that starts at q
 
+abbrev pub offsetIn : List ℕ → ℕ → ℕ
+offsetIn image q = valueAt image q offsetWidth
+
 abbrev pub deadlineIn : List ℕ → ℕ → ℕ
 deadlineIn image q = valueAt image (deadlineAt q) deadlineWidth
 
@@ -40,7 +43,7 @@ timeIn image q m = valueAt image (timeAt q m) timeWidth
 unfoldable pub taskIn : List ℕ → ℕ → ℕ → Task
 taskIn image m q =
     record {
-      offset = valueAt image q offsetWidth;
+      offset = offsetIn image q;
       jitter = valueAt image (jitterAt q) jitterWidth;
       blocking = valueAt image (blockingAt q) blockingWidth;
       deadline = deadlineIn image q;

@@ -8,7 +8,8 @@ use Rattle.table.specs.Table.{Table, modes, tasks}
 use Rattle.table.specs.Limits.{Limits, limits}
 use Rattle.table.specs.Fields.{Field, width, numberIn}
 use Rattle.table.specs.Fields.Field.{header, head, task}
-use Rattle.table.specs.Rules.{Look, tableRules}
+use Rattle.table.specs.Rules.{Look, Deadlines, tableRules}
+use Rattle.table.specs.Rules.Deadlines.{keepable}
 use Rattle.refusals.specs.declared.Answer.{Answer}
 use Rattle.refusals.specs.declared.Refusal.the-variants.{TooLarge, BufferShort}
 use Rattle.refusals.specs.Answer.{_then_, checked}
@@ -30,12 +31,13 @@ placeOf tab (task u j f) = placeInTask (taskAt (startOf tab u) (modes tab u) j) 
 abbrev pub tableLook : Table → Look Field
 tableLook tab = record { finding = λ f. checked (ltb (numberIn tab f) (2 ^ width f)) TooLarge (placeOf tab f); place = placeOf tab; number = numberIn tab }
 
--- the first fault of a table under those limits, and under those that there are
-abbrev pub tableFaultUnder : Limits → Table → Answer
-tableFaultUnder most tab = tableRules _then_ most (tableLook tab)
+-- the first fault of a table under those limits, with those deadlines let in; and under the limits that there are, only deadlines that
+-- can be kept let in
+abbrev pub tableFaultUnder : Limits → Deadlines → Table → Answer
+tableFaultUnder most deadlines tab = tableRules _then_ most deadlines (tableLook tab)
 
 unfoldable pub tableFault : Table → Answer
-tableFault tab = tableFaultUnder limits tab
+tableFault tab = tableFaultUnder limits keepable tab
 
 -- and of writing it into a buffer of so many bytes
 unfoldable pub writeFault : Table → (room : ℕ) → Answer

@@ -5,7 +5,7 @@ use mathlib.Core.List.{List, [], _∷_, map}
 use Prim.Native.Nat.{ℕ}
 use Rattle.bits.specs.Bits.{fieldBits}
 use Rattle.refusals.specs.declared.Answer.the-variants.{Accepted, Refused}
-use Rattle.refusals.specs.declared.Refusal.the-variants.{EditionUnknown, FrameZero, TransactionCount, PeriodUnfit, ModeCount, TaskCount, DeadlineZero, NeverRuns, TooLarge, BufferShort}
+use Rattle.refusals.specs.declared.Refusal.the-variants.{EditionUnknown, FrameZero, TransactionCount, PeriodUnfit, ModeCount, TaskCount, DeadlineZero, NeverRuns, DeadlineShort, TooLarge, BufferShort}
 use Rattle.table.specs.Table.{Task, Table}
 use Rattle.table.specs.Lists.{listOf, joined}
 use Rattle.table.specs.Sample.{S, task, transaction, table, plain, lone}
@@ -57,6 +57,9 @@ tasks :
     ∷ task 0 0 0 1 0 (0 ∷ 16_777_216 ∷ [])
     ∷ task 0 0 0 1 0 (0 ∷ 0 ∷ [])
     ∷ task 0 0 0 1 0 (0 ∷ 1 ∷ [])
+    ∷ task 2 0 0 4 0 (0 ∷ 3 ∷ [])
+    ∷ task 2 0 0 4 0 (3 ∷ 16_777_216 ∷ [])
+    ∷ task 2 0 0 5 0 (0 ∷ 3 ∷ [])
     ∷ [])
     ≡ Refused TooLarge 67
     ∷ Refused TooLarge 91
@@ -66,6 +69,9 @@ tasks :
     ∷ Refused TooLarge 165
     ∷ Refused TooLarge 197
     ∷ Refused NeverRuns 173
+    ∷ Accepted
+    ∷ Refused DeadlineShort 139
+    ∷ Refused TooLarge 197
     ∷ Accepted
     ∷ []
 unfolding computing startOf tableFault

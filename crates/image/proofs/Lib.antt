@@ -1,3 +1,4 @@
 pub mod Cells
+pub mod DueAt
 pub mod Filled
 pub mod Decoded

@@ -1,17 +1,23 @@
 -- Document 01's last image read in front of cells that held sevens, computed: with as many cells as a row has and one more, and with
--- three; and the same with a deadline of 0 in front of those three.
+-- three; and the same with a deadline of 0 in front of those three. And what it asks of a deadline that is a tick short.
 use mathlib.Core.Path.{_≡_, refl}
 use mathlib.Core.List.{List, [], _∷_}
 use Prim.Native.Nat.{ℕ, _+_}
+use lib.Dec.{lit<, lit≤}
 use lib.ListN.{take, drop, set, replicate}
 use Rattle.refusals.specs.declared.Refusal.the-variants.{DeadlineZero, NoRoom}
 use Rattle.refusals.specs.declared.Answer.the-variants.{Accepted, Refused}
 use Rattle.table.specs.Lists.{joined}
+use Rattle.table.specs.Table.{transactions, transaction, tasks, task, modes, offset, deadline, time}
+use Rattle.table.specs.Keepable.{greatestTime}
+use Rattle.table.specs.Fields.{TaskField}
 use Rattle.format.specs.Cases.{last}
 use Rattle.format.specs.Computing.{computing}
 use Rattle.row.specs.Row.{rowCells, tasksCell, ofTransaction, ofTask}
 use Rattle.image.specs.Fill.{tasksCells, headsIn, ofTasksIn, everyTaskIn, transactionsOver, filledOver}
 use Rattle.image.specs.Read.{frontFault, frontOver}
+use Rattle.image.specs.declared.due.Due.the-variants.{Of}
+use Rattle.image.specs.Due.{DueAt}
 
 abbrev sevens : ℕ → List ℕ
 sevens n = replicate n 7
@@ -39,3 +45,17 @@ cells = (refl, refl, refl)
 refused : (after last 3 ≡ sevens 3) × (after (set last 20 0) 3 ≡ sevens 3)
 unfolding computing
 refused = (refl, refl)
+
+-- with a deadline of 2: at its place it is told with offset 0 and time 3
+due : DueAt (set last 20 0x10) 139 (Of 0 3 2)
+unfolding computing transactions transaction tasks task modes offset deadline time greatestTime
+due =
+    record {
+      u = 0;
+      j = 0;
+      field = TaskField.deadline;
+      holds = record { has = (record { owner = lit< tt; place = lit< tt }, tt); bit = record { from = lit≤ tt; below = lit< tt } };
+      offset = refl;
+      time = refl;
+      deadline = refl;
+    }

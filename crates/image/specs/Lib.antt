@@ -1,4 +1,5 @@
 pub mod Head
 pub mod Fill
 pub mod Read
+pub mod Due
 pub mod Cases

@@ -1,5 +1,7 @@
 // Reading an image: any bytes give a table or a refusal, by document 01's number and place. It knows bits, places and
 // the limits of a table; it knows nothing of interference, of bounds or of what a table is read for.
+pub use due::Due;
+pub use due::due_at;
 use refusals::Answer;
 use refusals::Refusal;
 use row::Table;
@@ -10,6 +12,7 @@ ghost use Rattle.format.specs.Fault.{imageFault};
 ghost use Rattle.format.specs.Places.{longestImage};
 ghost use Rattle.image.specs.Read.{rowFor, rowOver, frontFault, frontOver};
 
+mod due;
 mod fill;
 mod parts;
 mod scan;

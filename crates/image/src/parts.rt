@@ -1,8 +1,12 @@
-// The parts of an image that stand before its tasks and before a task's times, by the bit position where each starts.
+// The parts of an image by the bit position where each starts: what stands before its tasks, what stands before a task's times, and the
+// greatest of these.
 use row::Task;
 use row::Transaction;
 ghost use mathlib.Core.Path.{_≡_};
-ghost use Prim.Native.Nat.{_<_, _^_};
+ghost use Prim.Native.Nat.{_+_, _*_, _<_, _^_};
+ghost use Rattle.bits.specs.Bits.{valueAt};
+ghost use Rattle.table.specs.Sum.{greatest};
+ghost use Rattle.table.specs.Limits.{timeWidth};
 ghost use Rattle.format.specs.Places.{taskAt};
 ghost use Rattle.image.specs.Head.{headAt, bodyAt};
 
@@ -39,4 +43,20 @@ pub(crate) fn body_at(image: &[u8], at: usize) -> Task
         bits::value(image, at + Task::DEADLINE_AT, Task::DEADLINE_WIDTH),
         bits::value(image, at + Task::PRIORITY_AT, Task::PRIORITY_WIDTH),
     )
+}
+
+// The greatest of the times that start at a bit position, one for each mode.
+pub(crate) fn greatest_time(image: &[u8], modes: usize, at: usize) -> u32
+    requires { ⌜ modes < 16 ⌝ }
+    requires { ⌜ at < 2 ^ 33 ⌝ }
+    ensures { λ r. ⌜ r ≡ greatest modes (λ k. valueAt (now (image .entry)) (at + k * timeWidth) timeWidth) ⌝ }
+{
+    let mut most: u32 = 0;
+    let mut k: usize = 0;
+    while k < modes {
+        let time = bits::value(image, at + k * Task::TIME_WIDTH, Task::TIME_WIDTH);
+        most = rules::greater(most, time);
+        k += 1;
+    }
+    most
 }

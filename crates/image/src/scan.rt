@@ -1,6 +1,7 @@
 // The first fault of an image, front to back. Reading a field is total, so each check reads its field whether the image
 // holds it or not: that it does is a check of its own that stands before, and what is read past a fault cannot show.
 use super::parts::end_of;
+use super::parts::greatest_time;
 use super::parts::head_at;
 use refusals::Answer;
 use refusals::Refusal;
@@ -11,12 +12,9 @@ use row::Transaction;
 ghost use mathlib.Core.Path.{_≡_};
 ghost use mathlib.Core.Bool.{true};
 ghost use Prim.Native.Nat.{_+_, _*_, _^_, _<_};
-ghost use Rattle.table.specs.Sum.{sum};
 ghost use Rattle.table.specs.Limits.{timeWidth};
-ghost use lib.Dec.{leb};
 ghost use Rattle.refusals.specs.Answer.{firstOf};
 ghost use Rattle.refusals.specs.declared.Answer.the-variants.{Accepted};
-ghost use Rattle.bits.specs.Bits.{valueAt};
 ghost use Rattle.format.specs.Places.{taskWidth};
 ghost use Rattle.format.specs.Said.{frameIn};
 ghost use Rattle.image.specs.Head.{headAt};
@@ -57,23 +55,6 @@ fn times_end(image: &[u8], modes: usize, at: usize) -> Answer
     found
 }
 
-// A time above 0 of those that start at a bit position, one for each mode: 0 where the task never runs.
-fn some_time(image: &[u8], modes: usize, at: usize) -> u32
-    requires { ⌜ modes < 16 ⌝ }
-    requires { ⌜ at < 2 ^ 33 ⌝ }
-    ensures { λ r. ⌜ leb 1 r ≡ leb 1 (sum modes (λ k. valueAt (now (image .entry)) (at + k * timeWidth) timeWidth)) ⌝ }
-{
-    let mut k: usize = 0;
-    while k < modes {
-        let time = bits::value(image, at + k * Task::TIME_WIDTH, Task::TIME_WIDTH);
-        if 0 < time {
-            return time;
-        }
-        k += 1;
-    }
-    0
-}
-
 fn task_fault(image: &[u8], modes: usize, at: usize) -> Answer
     requires { ⌜ modes < 16 ⌝ }
     requires { ⌜ at < 2 ^ 32 ⌝ }
@@ -84,8 +65,9 @@ fn task_fault(image: &[u8], modes: usize, at: usize) -> Answer
     let deadline = at + Task::DEADLINE_AT;
     let priority = at + Task::PRIORITY_AT;
     let times = at + Task::TIMES_AT;
+    let offset = bits::value(image, at, Task::OFFSET_WIDTH);
     let due = bits::value(image, deadline, Task::DEADLINE_WIDTH);
-    let time = some_time(image, modes, times) as u64;
+    let time = greatest_time(image, modes, times);
     ends(image, at, Task::OFFSET_WIDTH).then(ends(image, jitter, Task::JITTER_WIDTH))
         .then(ends(image, blocking, Task::BLOCKING_WIDTH))
         .then(ends(image, deadline, Task::DEADLINE_WIDTH))
@@ -93,9 +75,10 @@ fn task_fault(image: &[u8], modes: usize, at: usize) -> Answer
         .then(ends(image, priority, Task::PRIORITY_WIDTH))
         .then(times_end(image, modes, times))
         .then(rules::times(time, times))
+        .then(rules::keepable(offset, time, due, deadline))
 }
 
-// A task that is there whole, is due and runs has no fault.
+// A task that is there whole, runs and has a deadline that can be kept has no fault: then the deadline is not 0.
 fn is_sound(image: &[u8], modes: usize, at: usize) -> bool
     requires { ⌜ modes < 16 ⌝ }
     requires { ⌜ at < 2 ^ 32 ⌝ }
@@ -103,9 +86,11 @@ fn is_sound(image: &[u8], modes: usize, at: usize) -> bool
 {
     let whole = bits::inside(image, at, Task::TIMES_AT + modes * Task::TIME_WIDTH);
     if whole {
-        let due = bits::value(image, at + Task::DEADLINE_AT, Task::DEADLINE_WIDTH);
-        if 0 < due {
-            return 0 < some_time(image, modes, at + Task::TIMES_AT);
+        let time = greatest_time(image, modes, at + Task::TIMES_AT);
+        if 0 < time {
+            let offset = bits::value(image, at, Task::OFFSET_WIDTH);
+            let due = bits::value(image, at + Task::DEADLINE_AT, Task::DEADLINE_WIDTH);
+            return rules::is_keepable(offset, time, due);
         }
     }
     false

@@ -1,12 +1,33 @@
 // A refusal in words: its number, its reason, and its place by byte, bit and field.
+use image::Due;
+use image::due_at;
 use page::both;
+use page::count;
+use page::grouped;
 use page::number;
 use page::say;
 use places::Field;
 use refusals::Refusal;
 ghost use Rattle.page.specs.Whole.{Keeps};
 
-fn reason(whole: bool, refusal: Refusal) -> bool {
+// A deadline that nobody could keep, and what it should have room for, of the task of which some field holds that bit position.
+fn short(whole: bool, image: &[u8], at: usize) -> bool {
+    match due_at(image, at) {
+        Due::Of(offset, time, deadline) => {
+            let whole = count(
+                whole,
+                b"a deadline of ",
+                deadline as u64,
+                b", below offset ",
+            );
+            let whole = count(whole, b"", offset as u64, b" plus greatest time ");
+            grouped(whole, time as u64, 0)
+        }
+        Due::NoTask => say(whole, b"a deadline below offset plus greatest time"),
+    }
+}
+
+fn reason(whole: bool, image: &[u8], refusal: Refusal, at: usize) -> bool {
     match refusal {
         Refusal::EndsInside => say(whole, b"it ends inside a field"),
         Refusal::EditionUnknown => say(whole, b"edition is not 1"),
@@ -27,6 +48,7 @@ fn reason(whole: bool, refusal: Refusal) -> bool {
         Refusal::BytesFollow => say(whole, b"bytes follow the table"),
         Refusal::NoRoom => say(whole, b"too few cells for the answers"),
         Refusal::NoTask => say(whole, b"no task of that number"),
+        Refusal::DeadlineShort => short(whole, image, at),
         Refusal::TooLarge => say(whole, b"a number too large for its field"),
         Refusal::BufferShort => say(whole, b"the buffer is too short"),
     }
@@ -80,7 +102,7 @@ pub fn refused(whole: bool, image: &[u8], refusal: Refusal, at: usize) -> bool
 {
     let whole = counted(whole, b"image refused (", refusal.number() as usize);
     let whole = say(whole, b"): ");
-    let whole = both(whole, reason(whole, refusal));
+    let whole = both(whole, reason(whole, image, refusal, at));
     let whole = counted(whole, b", at byte ", at / 8);
     let whole = counted(whole, b", bit ", at % 8);
     let whole = say(whole, b": ");

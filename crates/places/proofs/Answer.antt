@@ -16,7 +16,8 @@ use Rattle.places.specs.Held.{inHeader, inTask, named, Held}
 use Rattle.places.specs.Held.Held.{within, behind}
 use Rattle.places.specs.Find.{headerFieldAt, taskFieldAt, partAt, partIn, holderAt, fieldAt}
 use Rattle.places.proofs.Parts.{split, header-among}
-use Rattle.places.proofs.Tiles.{Owns, part-holds, holder-holds, holds-is, own-place}
+use Rattle.places.specs.Owner.{Owns, OwnsAs}
+use Rattle.places.proofs.Tiles.{part-holds, holder-holds, holds-is, own-place}
 
 module _ (image : List ℕ) where
   -- a task's number in the whole table, as it is counted up along the image
@@ -40,8 +41,11 @@ module _ (image : List ℕ) where
   pub held-header : (p : ℕ) → p < firstAt → Held image p (inHeader (headerFieldAt p))
   held-header p h = within (table.Field.header (headerFieldAt p)) (record { has = tt; bit = header-among p h })
 
-  pub held-part : (u p : ℕ) → u < countIn image → Owns image u p → Held image p (named (λ v j. tasksBefore image u + j) (partIn image u p))
+  held-part : (u p : ℕ) → u < countIn image → Owns image u p → Held image p (named (λ v j. tasksBefore image u + j) (partIn image u p))
   held-part u p below o = rw (part-name u p below) at (within (partIn image u p) (part-holds image u p below o))
+
+  pub held-owned : (p u before m q : ℕ) → OwnsAs image p u before m q → Held image p (named (λ v j. before + j) (partAt u m (p - q)))
+  held-owned p u before m q o = rw (o .tasks, o .modes, o .starts) (held-part u p (o .counted) (o .owns))
 
   -- there is an answer
   pub held-at : (p : ℕ) → Held image p (fieldAt image p)

@@ -16,6 +16,7 @@ use Rattle.format.specs.Fault.{placeIn}
 use Rattle.format.proofs.Said.{said-transactions, said-modes, said-tasks}
 use Rattle.format.proofs.Reach.{task-reach}
 use Rattle.places.specs.Held.{Among, Holds}
+use Rattle.places.specs.Owner.{Owns}
 use Rattle.places.specs.Find.{headFieldAt, taskFieldAt, partAt, ownerOf, partIn, holderAt}
 use Rattle.places.proofs.Parts.{split, header-among, header-is, header-inside, head-among, head-is, head-inside, head-from, task-among, task-is, task-inside, task-from}
 
@@ -56,15 +57,10 @@ module _ (image : List ℕ) where
         | no l ↦ omega (arith, later u v (omega arith), next v)
       ]
 
-  -- bit p is one of transaction u
-  pub record Owns (u p : ℕ) : Type 0 where
-    pub from : start image u ≤ p
-    pub below : p < start image (suc u)
-
-  -- and u is one of the first n
+  -- bit p is one of transaction u, and u is one of the first n
   record Owned (n u p : ℕ) : Type 0 where
     counted : u < n
-    owns : Owns u p
+    owns : Owns image u p
 
   owner : (n p : ℕ) → firstAt ≤ p → p < start image n → Owned n (ownerOf image n p) p
   unfolding ownerOf start
@@ -76,7 +72,7 @@ module _ (image : List ℕ) where
       record { counted = omega (arith, earlier .counted); owns = earlier .owns })
       (λ k. record { counted = omega arith; owns = record { from = k; below = l } })
 
-  owner-is : (n u p : ℕ) → u < n → Owns u p → ownerOf image n p ≡ u
+  owner-is : (n u p : ℕ) → u < n → Owns image u p → ownerOf image n p ≡ u
   unfolding ownerOf
   owner-is zero u p h o = absurd (omega arith)
   owner-is (suc n) u p h o =
@@ -96,7 +92,7 @@ module _ (image : List ℕ) where
 
   -- ---- the fields of one transaction
 
-  pub part-holds : (u p : ℕ) → u < countIn image → Owns u p → Holds image (partIn image u p) p
+  pub part-holds : (u p : ℕ) → u < countIn image → Owns image u p → Holds image (partIn image u p) p
   unfolding partAt start past
   part-holds u p below o =
       let s = start image u in
@@ -118,7 +114,7 @@ module _ (image : List ℕ) where
         bit = omega (arith, among, o .from);
       })
 
-  head-part : (u p : ℕ) (f : HeadField) → Holds image (head u f) p → Owns u p × (partIn image u p ≡ head u f)
+  head-part : (u p : ℕ) (f : HeadField) → Holds image (head u f) p → Owns image u p × (partIn image u p ≡ head u f)
   unfolding partAt
   head-part u p f h =
       let s = start image u in
@@ -131,7 +127,7 @@ module _ (image : List ℕ) where
         rw (lt-ltb rest headWidth inside) (ap (head u) (head-is s rest f among)),
       )
 
-  task-part : (u j p : ℕ) (f : TaskField) → Holds image (task u j f) p → Owns u p × (partIn image u p ≡ task u j f)
+  task-part : (u j p : ℕ) (f : TaskField) → Holds image (task u j f) p → Owns image u p × (partIn image u p ≡ task u j f)
   unfolding partAt start
   task-part u j p f h =
       let s = start image u in
@@ -164,7 +160,7 @@ module _ (image : List ℕ) where
       let o : Owned (countIn image) (ownerOf image (countIn image) p) p = owner (countIn image) p l h in
       part-holds (ownerOf image (countIn image) p) p (o .counted) (o .owns))
 
-  owned : (u p : ℕ) (f : Field) → u < countIn image → Owns u p → partIn image u p ≡ f → (p < start image (countIn image)) × (holderAt image p ≡ f)
+  owned : (u p : ℕ) (f : Field) → u < countIn image → Owns image u p → partIn image u p ≡ f → (p < start image (countIn image)) × (holderAt image p ≡ f)
   unfolding holderAt start
   owned u p f below o is = (
     omega (arith, o .below, later (suc u) (countIn image) below),

@@ -1,14 +1,18 @@
--- The field that holds a bit position, computed at worked images.
+-- The field, and the task, that holds a bit position, computed at worked images.
 use mathlib.Core.Path.{_≡_, refl}
 use mathlib.Core.List.{List, [], _∷_, _++_, map}
 use Prim.Native.Nat.{ℕ}
+use lib.Dec.{lit<, lit≤}
 use lib.ListN.{take, replicate, set}
 use Rattle.table.specs.Table.{transactions, transaction, tasks}
 use Rattle.table.specs.Number.{before, number}
+use Rattle.table.specs.Fields.{TaskField}
 use Rattle.format.specs.Computing as format
 use Rattle.format.specs.Fault.{imageFault}
 use Rattle.refusals.specs.Answer.{answerPlace}
 use Rattle.places.specs.declared.Field.the-variants.{Edition, Frame, Transactions, Period, Modes, Tasks, Offset, Jitter, Blocking, Deadline, Priority, Time, Behind}
+use Rattle.places.specs.declared.Spot.the-variants.{Task}
+use Rattle.places.specs.Owner.{SpotAt}
 use Rattle.places.specs.Find.{partAt, ownerOf, holderAt, fieldAt}
 
 unfoldable computing : Unit {0}
@@ -55,9 +59,9 @@ S-fields = refl
 abbrev distinct : List ℕ
 distinct =
     0x10 ∷ 0x00 ∷ 0x00 ∷ 0xC0 ∷ 0x80 ∷ 0x00 ∷ 0x01 ∷ 0x88 ∷ 0x40 ∷ 0x00 ∷ 0x00 ∷ 0x20 ∷ 0x00 ∷ 0x00 ∷ 0x40 ∷ 0x00
-    ∷ 0x00 ∷ 0x60 ∷ 0x00 ∷ 0x00 ∷ 0x20 ∷ 0x28 ∷ 0x00 ∷ 0x00 ∷ 0x30 ∷ 0x00 ∷ 0x00 ∷ 0x38 ∷ 0x00 ∷ 0x00 ∷ 0x40 ∷ 0x00
-    ∷ 0x00 ∷ 0x48 ∷ 0x00 ∷ 0x00 ∷ 0x50 ∷ 0x00 ∷ 0x00 ∷ 0x16 ∷ 0x18 ∷ 0x00 ∷ 0x00 ∷ 0x1A ∷ 0x00 ∷ 0x00 ∷ 0x00 ∷ 0x00
-    ∷ 0x00 ∷ 0x18 ∷ 0x21 ∷ 0x00 ∷ 0x00 ∷ 0x0E ∷ 0x00 ∷ 0x00 ∷ 0x0F ∷ 0x00 ∷ 0x00 ∷ 0x10 ∷ 0x00 ∷ 0x00 ∷ 0x04 ∷ 0x44
+    ∷ 0x00 ∷ 0x60 ∷ 0x00 ∷ 0x00 ∷ 0xC0 ∷ 0x28 ∷ 0x00 ∷ 0x00 ∷ 0x30 ∷ 0x00 ∷ 0x00 ∷ 0x38 ∷ 0x00 ∷ 0x00 ∷ 0x40 ∷ 0x00
+    ∷ 0x00 ∷ 0x48 ∷ 0x00 ∷ 0x00 ∷ 0x50 ∷ 0x00 ∷ 0x00 ∷ 0x3E ∷ 0x18 ∷ 0x00 ∷ 0x00 ∷ 0x1A ∷ 0x00 ∷ 0x00 ∷ 0x00 ∷ 0x00
+    ∷ 0x00 ∷ 0x18 ∷ 0x21 ∷ 0x00 ∷ 0x00 ∷ 0x0E ∷ 0x00 ∷ 0x00 ∷ 0x0F ∷ 0x00 ∷ 0x00 ∷ 0x10 ∷ 0x00 ∷ 0x00 ∷ 0x0B ∷ 0xC4
     ∷ 0x80 ∷ 0x00 ∷ 0x04 ∷ 0xC0 ∷ []
 
 distinct-fields :
@@ -81,7 +85,7 @@ three-fields : map (fieldAt (set last 4 0xC0)) (196 ∷ 197 ∷ 229 ∷ 230 ∷ 
 unfolding computing
 three-fields = refl
 
--- what the place of each refusal is called, 1 to 11: the image with a byte changed, cut or added to
+-- what the place of each refusal is called, 1 to 11 and 14: the image with a byte changed, cut or added to
 abbrev faulty : List (List ℕ)
 faulty =
     []
@@ -96,10 +100,24 @@ faulty =
     ∷ set last 24 0x00
     ∷ set last 24 0x19
     ∷ (last ++ (0x00 ∷ []))
+    ∷ set last 20 0x10
     ∷ []
 
 refused-fields :
     map (λ image. fieldAt image (answerPlace (imageFault image))) faulty
-    ≡ Edition ∷ Time 0 0 0 ∷ Edition ∷ Frame ∷ Transactions ∷ Period 0 ∷ Modes 0 ∷ Tasks 0 ∷ Deadline 0 0 ∷ Time 0 0 0 ∷ Behind ∷ Behind ∷ []
+    ≡ Edition ∷ Time 0 0 0 ∷ Edition ∷ Frame ∷ Transactions ∷ Period 0 ∷ Modes 0 ∷ Tasks 0 ∷ Deadline 0 0 ∷ Time 0 0 0 ∷ Behind ∷ Behind ∷ Deadline 0 0 ∷ []
 unfolding computing
 refused-fields = refl
+
+-- bit 432 of S is one of its last task's, which starts at 360 and has one mode
+S-task : SpotAt S 432 (Task 360 1)
+unfolding computing
+S-task =
+    record {
+      u = 1;
+      j = 0;
+      field = TaskField.deadline;
+      holds = record { has = (record { owner = lit< tt; place = lit< tt }, tt); bit = record { from = lit≤ tt; below = lit< tt } };
+      modes = refl;
+      starts = refl;
+    }

@@ -1,4 +1,5 @@
 pub mod Held
+pub mod Owner
 pub mod About
 pub mod Find
 pub mod Cases

@@ -1,13 +1,14 @@
-// Which field of an image holds a bit position, for any bytes and any position: what a refusal's place is called at the
+// Which field of an image, and which task, holds a bit position, for any bytes and any position: what a refusal's place is called at the
 // desk. It knows the places of an image's fields; it knows nothing of how an image is read, or of what a field is for.
 use row::Table;
 use row::Task;
 use row::Transaction;
 ghost use mathlib.Core.Path.{_≡_};
-ghost use Prim.Native.Nat.{_+_, _^_, _<_};
-ghost use Rattle.format.specs.Places.{taskWidth};
+ghost use Prim.Native.Nat.{_+_, _^_, _<_, _≤_};
+ghost use Rattle.format.specs.Places.{firstAt, taskWidth};
 ghost use Rattle.format.specs.Said.{modesIn, tasksIn};
 ghost use Rattle.places.specs.Held.{inHeader, inHead, inTask, named, Held};
+ghost use Rattle.places.specs.Owner.{OwnedBy, SpotAt};
 ghost use Rattle.places.specs.Find.{headerFieldAt, headFieldAt, taskFieldAt, partAt};
 
 // A field of an image: by the number of its transaction, the number of its task in the whole table, and the mode of a time.
@@ -28,6 +29,18 @@ pub enum Field {
     Behind,
 }
 
+// Where a task starts, as a bit position, and how many modes it has.
+pub enum Spot {
+    Task(usize, usize),
+    NoTask,
+}
+
+// A transaction of an image: its number, how many tasks stand before it, its modes, and where it starts.
+enum Owner {
+    Transaction(usize, usize, usize, usize),
+    Behind,
+}
+
 // The field that holds a bit position, which counts from the most significant bit of the first byte.
 pub fn field_at(image: &[u8], place: usize) -> Field
     ensures { λ r. ⌜ Held (now (image .entry)) place r ⌝ }
@@ -35,6 +48,40 @@ pub fn field_at(image: &[u8], place: usize) -> Field
     if place < Table::FIRST_AT {
         return in_header(place);
     }
+    match owner_at(image, place) {
+        Owner::Transaction(u, before, modes, at) => in_transaction(u, before, modes, place - at),
+        Owner::Behind => Field::Behind,
+    }
+}
+
+// The task of which some field holds a bit position.
+pub fn task_at(image: &[u8], place: usize) -> Spot
+    ensures { λ r. ⌜ SpotAt (now (image .entry)) place r ⌝ }
+{
+    if place < Table::FIRST_AT {
+        return Spot::NoTask;
+    }
+    match owner_at(image, place) {
+        Owner::Transaction(_, _, modes, at) => {
+            let rest = place - at;
+            if rest < Transaction::WIDTH {
+                Spot::NoTask
+            } else {
+                Spot::Task(
+                    place - (rest - Transaction::WIDTH) % task_width(modes),
+                    modes,
+                )
+            }
+        }
+        Owner::Behind => Spot::NoTask,
+    }
+}
+
+// The transaction that a bit position behind the header lies in.
+fn owner_at(image: &[u8], place: usize) -> Owner
+    requires { ⌜ firstAt ≤ place ⌝ }
+    ensures { λ r. ⌜ OwnedBy (now (image .entry)) place r ⌝ }
+{
     let count = bits::value(image, Table::COUNT_AT, Table::TRANSACTIONS_WIDTH) as usize;
     let mut before: usize = 0;
     let mut at = Table::FIRST_AT;
@@ -44,13 +91,13 @@ pub fn field_at(image: &[u8], place: usize) -> Field
         let tasks = tasks_at(image, at);
         let end = at + Transaction::WIDTH + tasks * task_width(modes);
         if place < end {
-            return in_transaction(u, before, modes, place - at);
+            return Owner::Transaction(u, before, modes, at);
         }
         before += tasks;
         at = end;
         u += 1;
     }
-    Field::Behind
+    Owner::Behind
 }
 
 // What the image says of the transaction that starts at a bit position.

@@ -59,8 +59,8 @@ then-accepted (Refused r at) = refl
 
 -- a rule among findings, and three rules
 
-pub one-rule : (a b c d e f : Answer) → (a then b then c then d then e then f) ≡ (a then (b then c) then d then e then f)
-one-rule a b c d e f = ap (λ (x : Answer). x then d then e then f) (then-assoc a b c)
+pub one-rule : (a b c d e f g : Answer) → (a then b then c then d then e then f then g) ≡ (a then (b then c) then d then e then f then g)
+one-rule a b c d e f g = ap (λ (x : Answer). x then d then e then f then g) (then-assoc a b c)
 
 pub three-rules : (a b c d e f : Answer) → (a then b then c then d then e then f) ≡ (a then b then (c then d) then (e then f))
 three-rules a b c d e f = then-assoc (a then b then c then d) e f ∙ ap (λ (x : Answer). x then (e then f)) (then-assoc (a then b) c d)
@@ -152,6 +152,12 @@ module _ (P : Refusal → ℕ → Type 0) where
   unfolding checked
   only-checked true refusal at h = tt
   only-checked false refusal at h = h
+
+  -- a check that refuses is one whose test failed
+  pub only-failed : (t : Bool) (refusal : Refusal) (at : ℕ) → (t ≡ false → P refusal at) → Only (checked t refusal at)
+  unfolding checked
+  only-failed true refusal at h = tt
+  only-failed false refusal at h = h refl
 
   pub only-then : (a b : Answer) → Only a → (a ≡ Accepted → Only b) → Only (a then b)
   unfolding _then_

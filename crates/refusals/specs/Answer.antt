@@ -2,7 +2,7 @@
 use mathlib.Core.Bool.{Bool, true, false}
 use Prim.Native.Nat.{ℕ, zero, suc}
 use Rattle.refusals.specs.declared.Refusal.{Refusal}
-use Rattle.refusals.specs.declared.Refusal.the-variants.{EndsInside, EditionUnknown, FrameZero, TransactionCount, PeriodUnfit, ModeCount, TaskCount, DeadlineZero, NeverRuns, PaddingSet, BytesFollow, NoRoom, NoTask, TooLarge, BufferShort}
+use Rattle.refusals.specs.declared.Refusal.the-variants.{EndsInside, EditionUnknown, FrameZero, TransactionCount, PeriodUnfit, ModeCount, TaskCount, DeadlineZero, NeverRuns, PaddingSet, BytesFollow, NoRoom, NoTask, DeadlineShort, TooLarge, BufferShort}
 use Rattle.refusals.specs.declared.Answer.{Answer}
 use Rattle.refusals.specs.declared.Answer.the-variants.{Accepted, Refused}
 
@@ -21,6 +21,7 @@ refusalNumber PaddingSet = 10
 refusalNumber BytesFollow = 11
 refusalNumber NoRoom = 12
 refusalNumber NoTask = 13
+refusalNumber DeadlineShort = 14
 refusalNumber TooLarge = 29
 refusalNumber BufferShort = 30
 

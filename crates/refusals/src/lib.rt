@@ -18,6 +18,7 @@ pub enum Refusal {
     BytesFollow,
     NoRoom,
     NoTask,
+    DeadlineShort,
     TooLarge,
     BufferShort,
 }
@@ -45,6 +46,7 @@ impl Refusal {
             Refusal::BytesFollow => 11,
             Refusal::NoRoom => 12,
             Refusal::NoTask => 13,
+            Refusal::DeadlineShort => 14,
             Refusal::TooLarge => 29,
             Refusal::BufferShort => 30,
         }

@@ -12,6 +12,7 @@ use Rattle.table.specs.Fields.{Field, numberIn, IsField, Fits, Timed}
 use Rattle.table.specs.Kept.{Kept}
 use Rattle.table.proofs.Rules.{SoundTable, sound-table}
 use Rattle.table.proofs.Accepted.{Reads, rules-keep, kept-rules, kept-fits}
+use Rattle.table.specs.Rules.Deadlines.{keepable}
 use Rattle.format.specs.Said.{tableIn}
 use Rattle.format.specs.Fault.{IsAccepted}
 use Rattle.format.specs.Image.{imageOf}
@@ -25,9 +26,9 @@ module _ (tab : Table) where
   own-reads = record { number = λ f has. refl }
 
   module _ (ok : tableFault tab ≡ Accepted) where
-    sound : SoundTable limits (tableLook tab)
+    sound : SoundTable limits keepable (tableLook tab)
     unfolding tableFault
-    sound = sound-table limits then-joins (tableLook tab) ok
+    sound = sound-table limits keepable then-joins (tableLook tab) ok
 
     own-clear : (f : Field) → IsField tab f → tableLook tab .finding f ≡ Accepted
     unfolding numberIn

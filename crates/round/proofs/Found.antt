@@ -1,4 +1,4 @@
--- Which refusals a table can have, and how far they are: those of the rules, 2 to 9, and 29, never beyond the longest image;
+-- Which refusals a table can have, and how far they are: those of the rules, 2 to 9 and 14, and 29, never beyond the longest image;
 -- and of an image that was written those of the rules alone.
 use mathlib.Core.Path.{_≡_, refl, sym, _∙_}
 use mathlib.Core.Logic.{_⊎_, inl, inr}
@@ -6,11 +6,12 @@ use Prim.Native.Nat.{ℕ, _*_, _≤_}
 use Rattle.refusals.specs.declared.Refusal.{Refusal}
 use Rattle.refusals.specs.declared.Refusal.the-variants.{TooLarge}
 use Rattle.refusals.specs.declared.Answer.the-variants.{Refused}
-use Rattle.refusals.specs.Answer.{refusalNumber, answerPlace}
+use Rattle.refusals.specs.Answer.{answerPlace}
 use Rattle.refusals.proofs.Findings.{Only, only-checked}
 use Rattle.table.specs.Table.{Table}
 use Rattle.table.specs.Limits.{limits}
 use Rattle.table.specs.Fields.{Field, IsField, numberIn, Fits, Timed}
+use Rattle.table.specs.Rules.Deadlines.{keepable}
 use Rattle.format.specs.Places.{longestImage}
 use Rattle.format.specs.Fault.{imageFault}
 use Rattle.format.specs.Image.{imageOf}
@@ -28,9 +29,9 @@ module _ (tab : Table) where
   own-found : Only Own (tableFault tab)
   unfolding tableFault
   own-found =
-      only-table limits (tableLook tab) Own (λ f here. only-checked Own _ TooLarge _ (inr refl)) (λ f here r is. inl is)
+      only-table limits (tableLook tab) keepable Own (λ f here. only-checked Own _ TooLarge _ (inr refl)) (λ f here r is. inl is)
 
-  pub only-rules : {r : Refusal} {at : ℕ} → tableFault tab ≡ Refused r at → ((2 ≤ refusalNumber r) × (refusalNumber r ≤ 9)) ⊎ (r ≡ TooLarge)
+  pub only-rules : {r : Refusal} {at : ℕ} → tableFault tab ≡ Refused r at → IsRule r ⊎ (r ≡ TooLarge)
   only-rules e = rw e at own-found
 
   -- the rules come only to fields that the table has
@@ -46,14 +47,14 @@ module _ (tab : Table) where
 
     rules-found : Only Ruled (tableFault tab)
     unfolding tableFault
-    rules-found = only-table limits (tableLook tab) Ruled (λ f here. rw (fits-clear tab fits f (has f here)) tt) (λ f here r is. is)
+    rules-found = only-table limits (tableLook tab) keepable Ruled (λ f here. rw (fits-clear tab fits f (has f here)) tt) (λ f here r is. is)
 
-    pub only-own-rules : {r : Refusal} {at : ℕ} → tableFault tab ≡ Refused r at → (2 ≤ refusalNumber r) × (refusalNumber r ≤ 9)
+    pub only-own-rules : {r : Refusal} {at : ℕ} → tableFault tab ≡ Refused r at → IsRule r
     only-own-rules e = rw e at rules-found
 
     -- so an image that was written never ends inside a field, has no padding bit that is 1, and no byte follows
     pub written-refused :
-        Timed tab → {r : Refusal} {at : ℕ} → imageFault (imageOf tab) ≡ Refused r at → (2 ≤ refusalNumber r) × (refusalNumber r ≤ 9)
+        Timed tab → {r : Refusal} {at : ℕ} → imageFault (imageOf tab) ≡ Refused r at → IsRule r
     written-refused timed e = only-own-rules (sym (refused-alike tab fits timed) ∙ e)
 
   -- ---- how far

@@ -6,7 +6,7 @@ use native.Mathlib.Nat.{lt-of-lt-of-le}
 use native.Mathlib.Omega.{arith}
 use lib.Dec.{lit<, lit≤}
 use lib.ListN.{length}
-use Rattle.table.specs.Sum.{sum}
+use Rattle.table.specs.Sum.{sum, greatest}
 use Rattle.table.specs.Lists.{listOf}
 use Rattle.table.specs.Limits.{transactionsMost, modesMost, tasksInAll}
 use Rattle.table.specs.Table.{transactions, transaction, modes, tasks, noTask, noTransaction}
@@ -24,7 +24,7 @@ use Rattle.round.proofs.Places.{written-length}
 use Rattle.round.proofs.Accepted.{kept-accepted, written-accepted}
 
 full-task : KeptTask modesMost fullestTask
-unfolding fullestTask listOf
+unfolding fullestTask listOf greatest
 full-task =
     record {
       offset = lit< tt;
@@ -36,6 +36,7 @@ full-task =
       times = refl;
       time = λ m h. omega (arith, getD-listOf {A = ℕ} modesMost (λ k. 1) m 0 h);
       runs = record { mode = 0; within = lit< tt; some = lit< tt };
+      keepable = lit≤ tt;
     }
 
 full-transaction : (u : ℕ) → u < transactionsMost → KeptTransaction 1 (fullestTransaction u)

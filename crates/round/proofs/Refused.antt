@@ -14,6 +14,7 @@ use Rattle.table.specs.Table.{Table, transactions}
 use Rattle.table.specs.Limits.{limits}
 use Rattle.table.specs.Fields.{TaskField, Field, IsField, width, Fits, Timed}
 use Rattle.table.proofs.Accepted.{Reads}
+use Rattle.table.specs.Rules.Deadlines.{keepable}
 use Rattle.format.specs.Places.{start, bytesTo}
 use Rattle.format.specs.Fault.{placeIn, imageLook, endFault, imageFault}
 use Rattle.format.specs.Image.{tableBits, imageOf}
@@ -69,4 +70,4 @@ module _ (tab : Table) (fits : Fits tab) (timed : Timed tab) where
   refused-alike =
       none-after _ _
       (ap (endFault (imageOf tab)) (ap (start (imageOf tab)) (count-back tab fits timed) ∙ start-back tab fits timed (transactions tab) (omega arith)) ∙ end-clear tab timed)
-      ∙ alike-rules _then_ limits reads-back looks-alike
+      ∙ alike-rules _then_ limits keepable reads-back looks-alike

@@ -7,10 +7,10 @@ use row::Table;
 use row::Transaction;
 ghost use mathlib.Core.Path.{_≡_};
 ghost use mathlib.Core.Bool.{_&&_};
-ghost use Prim.Native.Nat.{_+_};
+ghost use Prim.Native.Nat.{_+_, max};
 ghost use lib.Dec.{leb, eqb};
 ghost use Rattle.refusals.specs.Answer.{checked};
-ghost use Rattle.refusals.specs.declared.Refusal.the-variants.{EditionUnknown, FrameZero, TransactionCount, PeriodUnfit, ModeCount, TaskCount, DeadlineZero, NeverRuns};
+ghost use Rattle.refusals.specs.declared.Refusal.the-variants.{EditionUnknown, FrameZero, TransactionCount, PeriodUnfit, ModeCount, TaskCount, DeadlineZero, NeverRuns, DeadlineShort};
 ghost use Rattle.table.specs.Limits.{editionKnown, transactionsMost, modesMost, tasksMost, tasksInAll};
 ghost use Rattle.table.specs.Rules.{isBetween, isDivisor};
 
@@ -105,9 +105,33 @@ pub fn deadline(n: u32, at: usize) -> Answer
     check(1 <= n, Refusal::DeadlineZero, at)
 }
 
-// By the sum of the task's times.
-pub fn times(all: u64, at: usize) -> Answer
-    ensures { λ r. ⌜ r ≡ checked (leb 1 all) NeverRuns at ⌝ }
+// The greater of two times: the greatest of a task's times is found by it.
+pub fn greater(x: u32, y: u32) -> u32
+    ensures { λ r. ⌜ r ≡ max x y ⌝ }
 {
-    check(1 <= all, Refusal::NeverRuns, at)
+    if x < y { y } else { x }
+}
+
+// By the greatest of the task's times.
+pub fn times(greatest: u32, at: usize) -> Answer
+    ensures { λ r. ⌜ r ≡ checked (leb 1 greatest) NeverRuns at ⌝ }
+{
+    check(1 <= greatest, Refusal::NeverRuns, at)
+}
+
+// A deadline leaves room for the offset and the greatest of the task's times.
+pub fn is_keepable(offset: u32, greatest: u32, deadline: u32) -> bool
+    ensures { λ r. ⌜ r ≡ leb (offset + greatest) deadline ⌝ }
+{
+    offset as u64 + greatest as u64 <= deadline as u64
+}
+
+pub fn keepable(offset: u32, greatest: u32, deadline: u32, at: usize) -> Answer
+    ensures { λ r. ⌜ r ≡ checked (leb (offset + greatest) deadline) DeadlineShort at ⌝ }
+{
+    check(
+        is_keepable(offset, greatest, deadline),
+        Refusal::DeadlineShort,
+        at,
+    )
 }

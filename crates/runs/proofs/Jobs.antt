@@ -106,6 +106,16 @@ module _ (σ : Stream) where
       go h (inl z) = omega arith
       go h (inr l) = omega (arith, σ .unfinished t k l, is-le k (σ .look t))
 
+  -- a job is served only once it is ready, and one tick at a time
+  pub done-since : (k t : ℕ) → done σ k t ≤ t - σ .ready k
+  unfolding done sum
+  done-since k zero = zero-le
+  done-since k (suc t) = go (done-since k t) (is-or k (σ .look t))
+    where
+      go : done σ k t ≤ t - σ .ready k → (is k (σ .look t) ≡ 0) ⊎ (σ .look t ≡ one k) → done σ k t + is k (σ .look t) ≤ suc t - σ .ready k
+      go h (inl z) = omega arith
+      go h (inr l) = omega (arith, σ .isReady t k l, is-le k (σ .look t))
+
   -- a later job is ready no earlier
   ready-mono : (k d : ℕ) → σ .ready k ≤ σ .ready (k + d)
   ready-mono k zero = rw (add-zero k) (le-refl (σ .ready k))

@@ -6,6 +6,7 @@ pub mod Busy
 pub mod Steady
 pub mod Sound
 pub mod Demand
+pub mod Unkept
 pub mod Dispatch
 pub mod ExtendTicks
 pub mod Extend

@@ -121,6 +121,7 @@ one-kept =
           times = refl;
           time = times;
           runs = record { mode = 0; within = lit< tt; some = lit< tt };
+          keepable = lit≤ tt;
         }
     only (suc j) h = absurd (omega arith)
 

@@ -26,7 +26,7 @@ pub fn cells(image: &[u8], budget: u32, cells: &mut [u32]) -> Filled
     answers::cells(image, budget, cells)
 }
 
-// For the emulator's C host: code × 2^32 + bound of one task; for 1 to 11 and 13 that number × 2^32 + its place.
+// For the emulator's C host: code × 2^32 + bound of one task; for 1 to 11, 13 and 14 that number × 2^32 + its place.
 #[no_mangle]
 pub extern "C" fn sumpcandle_response(image: &[u8], task: u32, budget: u32) -> u64
     ensures { λ r. ⌜ Responds (now (image .entry)) task budget r ⌝ }
@@ -34,7 +34,7 @@ pub extern "C" fn sumpcandle_response(image: &[u8], task: u32, budget: u32) -> u
     answers::response(image, task, budget)
 }
 
-// And the cells of every task, with who gave its bound. The result is 0; for 1 to 12 that number × 2^32 + its place.
+// And the cells of every task, with who gave its bound. The result is 0; for 1 to 12 and 14 that number × 2^32 + its place.
 #[no_mangle]
 pub extern "C" fn sumpcandle_cells(image: &[u8], budget: u32, cells: &mut [u32]) -> u64
     ensures { λ r. ⌜ TellsFilled (now (image .entry)) budget (now (cells .entry)) (now (cells .exit)) r ⌝ }
@@ -52,7 +52,7 @@ pub extern "C" fn sumpcandle_read(image: &[u8], cells: &mut [u32; Table::CELLS])
 }
 
 // And the table in the cells, whatever numbers they hold, as an image into the buffer, which stays as it was where the table or the
-// room is refused. The result is the image's length; for 2 to 9, 29 and 30 that number × 2^32 + its place.
+// room is refused. The result is the image's length; for 2 to 9, 14, 29 and 30 that number × 2^32 + its place.
 #[no_mangle]
 pub extern "C" fn sumpcandle_write(cells: &[u32; Table::CELLS], buffer: &mut [u8]) -> u64
     ensures { λ r. ⌜ Gives (tableOf (now (cells .entry))) (now (buffer .entry)) (now (buffer .exit)) r ⌝ }
@@ -61,7 +61,7 @@ pub extern "C" fn sumpcandle_write(cells: &[u32; Table::CELLS], buffer: &mut [u8
 }
 
 // For the emulator's C host, who pushed one task: what its bound is made of, into the cells. The result is the place of the answer's case,
-// `Made::GIVEN` or `Made::NO_BOUND`; for 1 to 11 and 13 that number × 2^32 + its place. But where they are given, the cells stay as they
+// `Made::GIVEN` or `Made::NO_BOUND`; for 1 to 11, 13 and 14 that number × 2^32 + its place. But where they are given, the cells stay as they
 // were.
 #[no_mangle]
 pub extern "C" fn sumpcandle_parts(

@@ -7,14 +7,15 @@ use native.Mathlib.Omega.{arith}
 use Rattle.refusals.specs.declared.Answer.{Answer}
 use Rattle.refusals.specs.declared.Answer.the-variants.{Accepted}
 use Rattle.refusals.proofs.Findings.{Joins}
-use Rattle.table.specs.Sum.{sum}
+use Rattle.table.specs.Sum.{sum, greatest}
 use Rattle.table.specs.Limits.{limits, tasksInAll}
 use Rattle.table.specs.Table.{Table, IsTask, transactions, transaction, period, modes, tasks, task, offset, jitter, blocking, deadline, priority, time}
 use Rattle.table.specs.Number.{before, inAll}
 use Rattle.table.specs.Fields.{HeaderField, HeadField, TaskField, Field, width, numberIn, IsField, Fits, Timed}
 use Rattle.table.specs.Rules.{Look, part, tableRules}
+use Rattle.table.specs.Rules.Deadlines.{keepable}
 use Rattle.table.specs.Kept.{Kept, KeptTransaction, KeptTask}
-use Rattle.table.proofs.Sum.{sum-ext, sum-next, sum-term, some-term}
+use Rattle.table.proofs.Sum.{sum-ext, sum-next, sum-term, some-term, greatest-ext}
 use Rattle.table.proofs.Number.{before-suc, before-grow}
 use Rattle.table.proofs.Ranges.{period-lt}
 use Rattle.table.proofs.Rules.{SoundTask, SoundTable, transactionAt, sound-table, clear-table}
@@ -34,7 +35,7 @@ module _ {look : Look Field} {tab : Table} (reads : Reads look tab) where
   unfolding numberIn
   frame-read = reads .number (Field.header HeaderField.frame) tt
 
-  count-read : look .number (Field.header HeaderField.count) ≡ transactions tab
+  pub count-read : look .number (Field.header HeaderField.count) ≡ transactions tab
   unfolding numberIn
   count-read = reads .number (Field.header HeaderField.count) tt
 
@@ -43,11 +44,11 @@ module _ {look : Look Field} {tab : Table} (reads : Reads look tab) where
     unfolding numberIn
     period-read = reads .number (Field.head u HeadField.period) h
 
-    modes-read : look .number (Field.head u HeadField.modes) ≡ modes tab u
+    pub modes-read : look .number (Field.head u HeadField.modes) ≡ modes tab u
     unfolding numberIn
     modes-read = reads .number (Field.head u HeadField.modes) h
 
-    tasks-read : look .number (Field.head u HeadField.tasks) ≡ tasks tab u
+    pub tasks-read : look .number (Field.head u HeadField.tasks) ≡ tasks tab u
     unfolding numberIn
     tasks-read = reads .number (Field.head u HeadField.tasks) h
 
@@ -56,7 +57,11 @@ module _ {look : Look Field} {tab : Table} (reads : Reads look tab) where
   before-read {u} h = sum-ext u (λ v below. tasks-read (omega arith))
 
   module _ {u j : ℕ} (is : IsTask tab u j) where
-    deadline-read : look .number (Field.task u j TaskField.deadline) ≡ deadline tab u j
+    pub offset-read : look .number (Field.task u j TaskField.offset) ≡ offset tab u j
+    unfolding numberIn
+    offset-read = reads .number (Field.task u j TaskField.offset) (is, tt)
+
+    pub deadline-read : look .number (Field.task u j TaskField.deadline) ≡ deadline tab u j
     unfolding numberIn
     deadline-read = reads .number (Field.task u j TaskField.deadline) (is, tt)
 
@@ -64,11 +69,15 @@ module _ {look : Look Field} {tab : Table} (reads : Reads look tab) where
     unfolding numberIn
     times-read = sum-ext (modes tab u) (λ m below. reads .number (Field.task u j (TaskField.time m)) (is, below))
 
+    pub greatest-read : greatest (modes tab u) (λ m. look .number (Field.task u j (TaskField.time m))) ≡ greatest (modes tab u) (λ m. time tab u m j)
+    unfolding numberIn
+    greatest-read = greatest-ext (modes tab u) (λ m below. reads .number (Field.task u j (TaskField.time m)) (is, below))
+
   -- ---- the rules, Fits and Timed give Kept
 
   module _ (fits : Fits tab) (timed : Timed tab) where
     kept-task :
-        {u j : ℕ} → IsTask tab u j → SoundTask (look .number (Field.head u HeadField.modes)) (part (Field.task u j) look) → KeptTask (modes tab u) (task tab u j)
+        {u j : ℕ} → IsTask tab u j → SoundTask keepable (look .number (Field.head u HeadField.modes)) (part (Field.task u j) look) → KeptTask (modes tab u) (task tab u j)
     unfolding numberIn offset jitter blocking deadline priority time
     kept-task {u} {j} is s =
         let some = some-term (modes tab u) (λ m. time tab u m j) (rw (modes-read (is .owner), times-read is) at (s .runs)) in
@@ -82,9 +91,10 @@ module _ {look : Look Field} {tab : Table} (reads : Reads look tab) where
           times = timed .times u j is;
           time = λ m below. fits .below (Field.task u j (TaskField.time m)) (is, below);
           runs = record { mode = some .term; within = rw (timed .times u j is) (some .within); some = some .some };
+          keepable = rw (modes-read (is .owner), greatest-read is, offset-read is, deadline-read is) at (s .keepable);
         }
 
-    kept-transaction : {u : ℕ} → u < transactions tab → transactionAt limits look u → KeptTransaction (tab .frame) (transaction tab u)
+    kept-transaction : {u : ℕ} → u < transactions tab → transactionAt limits keepable look u → KeptTransaction (tab .frame) (transaction tab u)
     unfolding period modes tasks task
     kept-transaction {u} h s =
         record {
@@ -98,7 +108,7 @@ module _ {look : Look Field} {tab : Table} (reads : Reads look tab) where
         }
 
     -- the last transaction's check of the sum so far is one of the sum in all
-    few-tasks : SoundTable limits look → inAll tab ≤ tasksInAll
+    few-tasks : SoundTable limits keepable look → inAll tab ≤ tasksInAll
     unfolding inAll
     few-tasks s =
         let last : ℕ = transactions tab - 1 in
@@ -107,10 +117,10 @@ module _ {look : Look Field} {tab : Table} (reads : Reads look tab) where
         rw some (before-read (le-refl (transactions tab))) in
         omega (arith, whole, sum-next last (λ v. look .number (Field.head v HeadField.tasks)), s .transaction last (omega (arith, count-read)) .head .inAll)
 
-    pub rules-keep : {join : Answer → Answer → Answer} → Joins join → tableRules join limits look ≡ Accepted → Kept tab
+    pub rules-keep : {join : Answer → Answer → Answer} → Joins join → tableRules join limits keepable look ≡ Accepted → Kept tab
     unfolding numberIn
     rules-keep joins h =
-        let s = sound-table limits joins look h in
+        let s = sound-table limits keepable joins look h in
         record {
           edition = sym edition-read ∙ s .header .edition;
           someFrame = rw frame-read at (s .header .frame);
@@ -124,14 +134,15 @@ module _ {look : Look Field} {tab : Table} (reads : Reads look tab) where
   -- ---- Kept gives no finding by the rules, where no field of the table has one of its own
 
   module _ (kept : Kept tab) (there : (f : Field) → IsField tab f → look .finding f ≡ Accepted) where
-    sound-task : {u j : ℕ} → IsTask tab u j → SoundTask (look .number (Field.head u HeadField.modes)) (part (Field.task u j) look)
-    unfolding modes deadline time task tasks
+    sound-task : {u j : ℕ} → IsTask tab u j → SoundTask keepable (look .number (Field.head u HeadField.modes)) (part (Field.task u j) look)
+    unfolding modes offset deadline time task tasks
     sound-task {u} {j} is =
         let k : KeptTask (modes tab u) (task tab u j) = kept .each u (is .owner) .each j (is .place) in
         rw (modes-read (is .owner))
         (record {
           there = λ f has. there (Field.task u j f) (is, has);
           due = rw (deadline-read is) (k .due);
+          keepable = rw (greatest-read is, offset-read is, deadline-read is) (k .keepable);
           runs = rw (times-read is) (le-trans (k .runs .some) (sum-term (modes tab u) (λ m. time tab u m j) (k .runs .mode) (rw (k .times) at (k .runs .within))));
         })
 
@@ -139,7 +150,7 @@ module _ {look : Look Field} {tab : Table} (reads : Reads look tab) where
     unfolding inAll
     room {u} h = omega (arith, kept .fewTasks, before-suc tab u, before-grow tab h)
 
-    sound-transaction : {u : ℕ} → u < transactions tab → transactionAt limits look u
+    sound-transaction : {u : ℕ} → u < transactions tab → transactionAt limits keepable look u
     unfolding period modes tasks task
     sound-transaction {u} h =
         let k : KeptTransaction (tab .frame) (transaction tab u) = kept .each u h in
@@ -158,9 +169,9 @@ module _ {look : Look Field} {tab : Table} (reads : Reads look tab) where
           task = λ j below. sound-task (record { owner = h; place = rw (tasks-read h) at below });
         }
 
-    pub kept-rules : {join : Answer → Answer → Answer} → Joins join → tableRules join limits look ≡ Accepted
+    pub kept-rules : {join : Answer → Answer → Answer} → Joins join → tableRules join limits keepable look ≡ Accepted
     kept-rules joins =
-        clear-table limits joins look
+        clear-table limits keepable joins look
         (record {
           header =
               record {

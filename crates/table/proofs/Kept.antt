@@ -1,29 +1,32 @@
 -- `Kept` holds of document 01's sample S.
 use mathlib.Core.Path.{refl}
 use mathlib.Core.List.{[], _∷_}
-use Prim.Native.Nat.{ℕ, zero, suc, _≤_, _<_, _^_}
+use Prim.Native.Nat.{ℕ, zero, suc, _+_, _≤_, _<_, _^_}
+use native.Mathlib.Nat.{zero-max}
 use native.Mathlib.Omega.{arith}
 use lib.Dec.{lit<, lit≤}
 use lib.ListN.{getD}
-use Rattle.table.specs.Sum.{sum}
+use Rattle.table.specs.Sum.{sum, greatest}
 use Rattle.table.specs.Table.{noTask, transactions, transaction, tasks}
 use Rattle.table.specs.Number.{before, inAll}
 use Rattle.table.specs.Kept.{Kept, KeptTransaction, KeptTask}
 use Rattle.table.specs.Sample.{S, plain}
 
 -- a task of one mode keeps its bounds where its numbers do
-plainKept : (O C P D : ℕ) → O < 2 ^ 24 → C < 2 ^ 24 → 0 < C → P < 2 ^ 8 → D < 2 ^ 26 → 1 ≤ D → KeptTask 1 (plain O C P D)
-plainKept O C P D o c some p d due =
+plainKept : (O C P D : ℕ) → O < 2 ^ 24 → C < 2 ^ 24 → 0 < C → P < 2 ^ 8 → D < 2 ^ 26 → O + C ≤ D → KeptTask 1 (plain O C P D)
+unfolding greatest
+plainKept O C P D o c some p d keepable =
     record {
       offset = o;
       jitter = lit< tt;
       blocking = lit< tt;
       deadline = d;
-      due = due;
+      due = omega arith;
       priority = p;
       times = refl;
       time = λ m h. time m h;
       runs = record { mode = 0; within = lit< tt; some = some };
+      keepable = rw (zero-max C) keepable;
     }
   where
     time : (m : ℕ) → m < 1 → getD (C ∷ []) m 0 < 2 ^ 24

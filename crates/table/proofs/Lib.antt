@@ -5,4 +5,5 @@ pub mod Ranges
 pub mod Rules
 pub mod Raised
 pub mod Accepted
+pub mod Keepable
 pub mod Kept

@@ -11,7 +11,7 @@ use Rattle.refusals.specs.Answer.{_then_, firstOf}
 use Rattle.refusals.proofs.Findings.{both-first, both-second, both-hold, Stays, stays-checked, stays-then, stays-first}
 use Rattle.table.specs.Limits.{Limits, limits, transactionsMost, transactionsWidth}
 use Rattle.table.specs.Fields.{HeaderField, HeadField, TaskField, Field}
-use Rattle.table.specs.Rules.{Look, part, isBetween, headerRules, headRules, taskRules, transactionRules, bodyRules, tableRules}
+use Rattle.table.specs.Rules.{Look, part, isBetween, Deadlines, headerRules, headRules, taskRules, transactionRules, bodyRules, tableRules}
 use Rattle.table.specs.Raised.{Raises, limitsBefore, IsCount}
 
 up-to : (n : ℕ) {most more : ℕ} → most ≤ more → leb n most ≡ true → leb n more ≡ true
@@ -41,17 +41,17 @@ module _ {small large : Limits} (raised : Raises small large) where
       (up-to (before + n) (raised .inAll) (both-second (isBetween 1 (small .tasks) n) _ within))))))
 
   stays-transaction :
-      (major before : ℕ) (look : Look HeadField) (each : ℕ → Look TaskField)
-      → Stays IsCount (transactionRules _then_ small major before look each) (transactionRules _then_ large major before look each)
+      (deadlines : Deadlines) (major before : ℕ) (look : Look HeadField) (each : ℕ → Look TaskField)
+      → Stays IsCount (transactionRules _then_ small deadlines major before look each) (transactionRules _then_ large deadlines major before look each)
   unfolding transactionRules taskRules
-  stays-transaction major before look each = stays-then IsCount _ (stays-head major before look) (λ _. refl)
+  stays-transaction deadlines major before look each = stays-then IsCount _ (stays-head major before look) (λ _. refl)
 
-  pub stays-table : (look : Look Field) → Stays IsCount (tableRules _then_ small look) (tableRules _then_ large look)
+  pub stays-table : (deadlines : Deadlines) (look : Look Field) → Stays IsCount (tableRules _then_ small deadlines look) (tableRules _then_ large deadlines look)
   unfolding tableRules bodyRules firstOf
-  stays-table look =
+  stays-table deadlines look =
       stays-then IsCount _ (stays-header (part Field.header look))
       (stays-first IsCount (look .number (Field.header HeaderField.count)) _ _
-      (λ u. stays-transaction _ _ (part (Field.head u) look) (λ j. part (Field.task u j) look)))
+      (λ u. stays-transaction deadlines _ _ (part (Field.head u) look) (λ j. part (Field.task u j) look)))
 
 pub raised-before : Raises limitsBefore limits
 raised-before = record { transactions = lit≤ tt; modes = refl; tasks = lit≤ tt; inAll = lit≤ tt }

@@ -1,12 +1,14 @@
--- Laws of sums, over any count and any terms.
-use mathlib.Core.Path.{_≡_, refl, ap, sym, _∙_}
-use Prim.Native.Nat.{ℕ, zero, suc, _+_, _*_, _≤_, _<_, zero-le}
-use native.Mathlib.Nat.{zero-mul, suc-mul, add-mul, add-zero, add-suc, le-trans, mul-le-mul-right}
+-- Laws of sums and of the greatest, over any count and any terms.
+use mathlib.Core.Path.{_≡_, refl, ap, ap₂, sym, _∙_}
+use Prim.Native.Nat.{ℕ, zero, suc, _+_, _*_, _≤_, _<_, zero-le, max}
+use native.Mathlib.Nat.{zero-mul, suc-mul, add-mul, add-zero, add-suc, le-trans, mul-le-mul-right, max-le, le-max-left, le-max-right}
 use native.Mathlib.Decide.{decLt}
 use native.Mathlib.Numerals.{add-one}
 use native.Mathlib.Omega.{arith}
 use lib.Arith.{le-zero}
-use Rattle.table.specs.Sum.{sum}
+use lib.Dec.{leb}
+use borrow.Author.Tests.{le-leb, lt-leb}
+use Rattle.table.specs.Sum.{sum, greatest}
 
 -- as a loop adds it up
 pub sum-next : (n : ℕ) (f : ℕ → ℕ) → sum (n + 1) f ≡ sum n f + f n
@@ -133,4 +135,48 @@ some-term (suc n) f h =
       | no l ↦
           let earlier : SomeTerm n f = some-term n f (omega arith) in
           record { term = earlier .term; within = omega (arith, earlier .within); some = earlier .some }
+    ]
+
+-- ---- the greatest
+
+-- as a loop finds it
+pub greatest-next : (n : ℕ) (f : ℕ → ℕ) → greatest (n + 1) f ≡ max (greatest n f) (f n)
+unfolding greatest
+greatest-next n f = rw (add-one n)
+
+pub greatest-ext : (n : ℕ) {f g : ℕ → ℕ} → ((i : ℕ) → i < n → f i ≡ g i) → greatest n f ≡ greatest n g
+unfolding greatest
+greatest-ext zero h = refl
+greatest-ext (suc n) h = ap₂ max (greatest-ext n (λ i l. h i (omega arith))) (h n (omega arith))
+
+pub greatest-term : (n : ℕ) (f : ℕ → ℕ) (i : ℕ) → i < n → f i ≤ greatest n f
+unfolding greatest
+greatest-term zero f i h = omega arith
+greatest-term (suc n) f i h =
+    elim (decLt i n) [
+      | yes l ↦ le-trans (greatest-term n f i l) (le-max-left (greatest n f) (f n))
+      | no l ↦
+          let q : f i ≡ f n = ap f (omega arith) in
+          omega (arith, le-max-right (greatest n f) (f n))
+    ]
+
+pub greatest-le : (n : ℕ) {f : ℕ → ℕ} {K : ℕ} → ((i : ℕ) → i < n → f i ≤ K) → greatest n f ≤ K
+unfolding greatest
+greatest-le zero h = zero-le
+greatest-le (suc n) h = max-le (greatest-le n (λ i l. h i (omega arith))) (h n (omega arith))
+
+-- it is 0 where the sum is
+pub greatest-sum : (n : ℕ) (f : ℕ → ℕ) → greatest n f ≤ sum n f
+greatest-sum n f = greatest-le n (sum-term n f)
+
+sum-greatest : (n : ℕ) (f : ℕ → ℕ) → 1 ≤ sum n f → 1 ≤ greatest n f
+sum-greatest n f h =
+    let some : SomeTerm n f = some-term n f h in
+    le-trans (some .some) (greatest-term n f (some .term) (some .within))
+
+pub greatest-some : (n : ℕ) (f : ℕ → ℕ) → leb 1 (greatest n f) ≡ leb 1 (sum n f)
+greatest-some n f =
+    elim (decLt 0 (sum n f)) [
+      | yes some ↦ le-leb 1 (greatest n f) (sum-greatest n f some) ∙ sym (le-leb 1 (sum n f) some)
+      | no none ↦ lt-leb 1 (greatest n f) (omega (arith, greatest-sum n f)) ∙ sym (lt-leb 1 (sum n f) (omega arith))
     ]

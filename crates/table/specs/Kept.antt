@@ -1,10 +1,11 @@
 -- What an accepted table keeps: document 01's bounds on a table, and the range of every field.
 use mathlib.Core.Path.{_≡_}
 use mathlib.Core.List.{List}
-use Prim.Native.Nat.{ℕ, _≤_, _<_, _^_, _%_}
+use Prim.Native.Nat.{ℕ, _+_, _≤_, _<_, _^_, _%_}
 use native.Mathlib.Omega.{arith}
 use lib.Dec.{lit<}
 use lib.ListN.{length, getD}
+use Rattle.table.specs.Sum.{greatest}
 use Rattle.table.specs.Table.{Task, Transaction, Table, transactions, transaction, noTask}
 use Rattle.table.specs.Limits.{
   frameMost,
@@ -40,6 +41,7 @@ pub record KeptTask (modes : ℕ) (t : Task) : Type 0 where
   pub times : length (t .times) ≡ modes
   pub time : (m : ℕ) → m < modes → getD (t .times) m 0 < 2 ^ timeWidth
   pub runs : RunsSometime (t .times)
+  pub keepable : t .offset + greatest modes (λ m. getD (t .times) m 0) ≤ t .deadline
 
 -- a transaction of a table with that major frame
 pub record KeptTransaction (frame : ℕ) (x : Transaction) : Type 0 where
@@ -65,4 +67,11 @@ pub late-not-kept : ¬ (Kept (lone 10 (plain 0 3 5 0)))
 unfolding transactions transaction
 late-not-kept k =
     let due : 1 ≤ 0 = k .each 0 (lit< tt) .each 0 (lit< tt) .due in
+    omega arith
+
+-- nor is one that is a tick short
+short-not-kept : ¬ (Kept (lone 10 (plain 4 3 5 6)))
+unfolding transactions transaction greatest
+short-not-kept k =
+    let keepable : 7 ≤ 6 = k .each 0 (lit< tt) .each 0 (lit< tt) .keepable in
     omega arith

@@ -5,6 +5,7 @@ pub mod Limits
 pub mod Fields
 pub mod Rules
 pub mod Raised
+pub mod Keepable
 pub mod Kept
 pub mod Number
 pub mod Computing

@@ -6,13 +6,14 @@ use Prim.Native.Nat.{ℕ, suc, _+_, _*_}
 use lib.Dec.{ltb}
 use Rattle.refusals.specs.declared.Answer.{Answer}
 use Rattle.refusals.specs.declared.Answer.the-variants.{Accepted, Refused}
-use Rattle.refusals.specs.declared.Refusal.the-variants.{EndsInside, EditionUnknown, FrameZero, TransactionCount, PeriodUnfit, ModeCount, TaskCount, DeadlineZero, NeverRuns}
+use Rattle.refusals.specs.declared.Refusal.the-variants.{EndsInside, EditionUnknown, FrameZero, TransactionCount, PeriodUnfit, ModeCount, TaskCount, DeadlineZero, NeverRuns, DeadlineShort}
 use Rattle.refusals.specs.Answer.{_then_, checked}
 use Rattle.table.specs.Table.{Table}
 use Rattle.table.specs.Limits.{Limits, limits}
 use Rattle.table.specs.Lists.{listOf}
 use Rattle.table.specs.Fields.{HeaderField, HeadField, TaskField, Field, numberIn}
-use Rattle.table.specs.Rules.{tableRules}
+use Rattle.table.specs.Rules.{Deadlines, tableRules}
+use Rattle.table.specs.Rules.Deadlines.{any, keepable}
 use Rattle.table.specs.Raised.{limitsBefore}
 use Rattle.table.specs.Computing.{computing}
 use Rattle.table.specs.Sample.{S, task, transaction, table}
@@ -43,12 +44,12 @@ place (Field.head u f) = 100 * suc u + inHead f
 place (Field.task u j f) = 100 * suc u + 10 * suc j + inTask f
 
 -- what is found where only the fields before that place are there
-abbrev foundUnder : Limits → Table → (cut : ℕ) → Answer
-foundUnder most tab cut =
-    tableRules _then_ most (record { finding = λ f. checked (ltb (place f) cut) EndsInside (place f); place = place; number = numberIn tab })
+abbrev foundUnder : Limits → Deadlines → Table → (cut : ℕ) → Answer
+foundUnder most deadlines tab cut =
+    tableRules _then_ most deadlines (record { finding = λ f. checked (ltb (place f) cut) EndsInside (place f); place = place; number = numberIn tab })
 
 abbrev found : Table → (cut : ℕ) → Answer
-found = foundUnder limits
+found = foundUnder limits keepable
 
 -- S, whole and cut: its last field is the time of its last task
 whole : map (found S) (216 ∷ 215 ∷ 124 ∷ 0 ∷ []) ≡ Accepted ∷ Refused EndsInside 215 ∷ Refused EndsInside 124 ∷ Refused EndsInside 0 ∷ []
@@ -86,7 +87,7 @@ unfolding computing
 count = refl
 
 -- under document 01's limits 33 were too many
-count-before : map (λ n. foundUnder limitsBefore (transactionsOf n) 3) (32 ∷ 33 ∷ []) ∷ map (λ n. found (transactionsOf n) 3) (33 ∷ []) ∷ [] ≡ (Refused EndsInside 100 ∷ Refused TransactionCount 2 ∷ []) ∷ (Refused EndsInside 100 ∷ []) ∷ []
+count-before : map (λ n. foundUnder limitsBefore keepable (transactionsOf n) 3) (32 ∷ 33 ∷ []) ∷ map (λ n. found (transactionsOf n) 3) (33 ∷ []) ∷ [] ≡ (Refused EndsInside 100 ∷ Refused TransactionCount 2 ∷ []) ∷ (Refused EndsInside 100 ∷ []) ∷ []
 unfolding computing
 count-before = refl
 
@@ -110,14 +111,14 @@ tasks = refl
 
 -- the sum so far: S has two tasks and then one
 sum-so-far :
-    map (λ n. foundUnder (record { transactions = 2; modes = 1; tasks = 2; inAll = n }) S 216) (1 ∷ 2 ∷ 3 ∷ [])
+    map (λ n. foundUnder (record { transactions = 2; modes = 1; tasks = 2; inAll = n }) keepable S 216) (1 ∷ 2 ∷ 3 ∷ [])
     ≡ Refused TaskCount 102 ∷ Refused TaskCount 202 ∷ Accepted ∷ []
 unfolding computing
 sum-so-far = refl
 
 -- five transactions of 13 tasks were too many under document 01's limits
 sum-before :
-    map (λ most. foundUnder most (table 20 (listOf 5 (λ u. transaction 20 1 (listOf 13 (λ j. task 0 0 0 1 0 (1 ∷ [])))))) 636) (limitsBefore ∷ limits ∷ [])
+    map (λ most. foundUnder most keepable (table 20 (listOf 5 (λ u. transaction 20 1 (listOf 13 (λ j. task 0 0 0 1 0 (1 ∷ [])))))) 636) (limitsBefore ∷ limits ∷ [])
     ≡ Refused TaskCount 502 ∷ Accepted ∷ []
 unfolding computing
 sum-before = refl
@@ -139,3 +140,31 @@ times :
     ≡ (Refused EndsInside 115 ∷ Refused EndsInside 116 ∷ Refused NeverRuns 115 ∷ []) ∷ (Accepted ∷ Accepted ∷ []) ∷ []
 unfolding computing
 times = refl
+
+-- a task with offset 3, its deadline and its times, and a second one with deadline 0 behind it
+abbrev dueAt : (D : ℕ) → List ℕ → Table
+dueAt D times = table 20 (transaction 20 2 (task 3 0 0 D 0 times ∷ []) ∷ [])
+
+abbrev faultBehind : (D : ℕ) → Table
+faultBehind D = table 20 (transaction 20 2 (task 3 0 0 D 0 (2 ∷ 4 ∷ []) ∷ task 0 0 0 0 0 [] ∷ []) ∷ [])
+
+-- a deadline below the offset, one tick below the offset plus the greatest time, which any mode may have, and just enough
+short :
+    map (λ D. found (dueAt D (2 ∷ 4 ∷ [])) 117) (2 ∷ 6 ∷ 7 ∷ []) ∷ map (λ D. found (dueAt D (4 ∷ 2 ∷ [])) 117) (6 ∷ 7 ∷ []) ∷ []
+    ≡ (Refused DeadlineShort 113 ∷ Refused DeadlineShort 113 ∷ Accepted ∷ []) ∷ (Refused DeadlineShort 113 ∷ Accepted ∷ []) ∷ []
+unfolding computing
+short = refl
+
+-- the task's own faults come first, then this one, and then those of the next task
+short-in-order :
+    found (dueAt 6 (2 ∷ 4 ∷ [])) 116 ∷ found (dueAt 0 (2 ∷ 4 ∷ [])) 117 ∷ found (dueAt 2 (0 ∷ 0 ∷ [])) 117 ∷ found (faultBehind 6) 200 ∷ found (faultBehind 7) 200 ∷ []
+    ≡ Refused EndsInside 116 ∷ Refused DeadlineZero 113 ∷ Refused NeverRuns 115 ∷ Refused DeadlineShort 113 ∷ Refused DeadlineZero 123 ∷ []
+unfolding computing
+short-in-order = refl
+
+-- where any deadline is let in there is no such rule
+short-let-in :
+    map (λ D. foundUnder limits any (dueAt D (2 ∷ 4 ∷ [])) 117) (2 ∷ 6 ∷ 0 ∷ []) ∷ map (λ D. foundUnder limits any (faultBehind D) 200) (6 ∷ []) ∷ []
+    ≡ (Accepted ∷ Accepted ∷ Refused DeadlineZero 113 ∷ []) ∷ (Refused DeadlineZero 123 ∷ []) ∷ []
+unfolding computing
+short-let-in = refl

@@ -35,7 +35,7 @@ cases =
     first
     -- One task, frame and T 10: C 10 bounded by 10; C 11 gives 21
     ∷ record { tab = lone 10 (plain 0 10 1 10); u = 0; a = 0; budget = 100; says = bound 10 3 (by 0 0 0) }
-    ∷ record { tab = lone 10 (plain 0 11 1 10); u = 0; a = 0; budget = 100; says = overload }
+    ∷ record { tab = lone 10 (plain 0 11 1 11); u = 0; a = 0; budget = 100; says = overload }
     -- Two modes: the lower task ends at 6, not 9 as with 4 and 4
     ∷ record { tab = lowerOf 2 (4 ∷ 1 ∷ []) (1 ∷ 4 ∷ []); u = 1; a = 0; budget = 100; says = bound 6 9 (by 0 2 0) }
     ∷ record { tab = lowerOf 1 (4 ∷ []) (4 ∷ []); u = 1; a = 0; budget = 100; says = bound 9 12 (by 0 2 0) }

@@ -45,7 +45,7 @@ starred =
     ∷ record { ask = evaluationsOf delayed 0 0; says = pos 4 ∷ [] }
     -- One task, frame and T 10: C 10 bounded by 10; C 11 gives 21
     ∷ record { ask = boundOf (lone 10 (plain 0 10 1 10)) 0 0; says = pos 10 ∷ [] }
-    ∷ record { ask = codeOf (lone 10 (plain 0 11 1 10)) 0 0; says = pos 21 ∷ [] }
+    ∷ record { ask = codeOf (lone 10 (plain 0 11 1 11)) 0 0; says = pos 21 ∷ [] }
     -- Two modes: the lower task ends at 6, not 9 as with 4 and 4
     ∷ record { ask = boundOf (lowerOf 2 (4 ∷ 1 ∷ []) (1 ∷ 4 ∷ [])) 1 0; says = pos 6 ∷ [] }
     ∷ record { ask = boundOf (lowerOf 1 (4 ∷ []) (4 ∷ [])) 1 0; says = pos 9 ∷ [] }

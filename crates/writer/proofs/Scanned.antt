@@ -16,8 +16,9 @@ use Rattle.table.specs.Table.{Table, transactions, modes, tasks, IsTask}
 use Rattle.table.specs.Number.{before, number}
 use Rattle.table.specs.Fields.{HeadField, TaskField, Field, widthInTask, numberIn, IsTaskField}
 use Rattle.table.specs.Rules.{part, headRules, taskRules, transactionRules, bodyRules, tableRules}
-use Rattle.table.specs.Sum.{sum}
-use Rattle.table.proofs.Sum.{sum-ext, sum-next}
+use Rattle.table.specs.Rules.Deadlines.{keepable}
+use Rattle.table.specs.Sum.{greatest}
+use Rattle.table.proofs.Sum.{sum-ext, sum-next, greatest-ext, greatest-sum}
 use Rattle.table.proofs.Rules as rules
 use Rattle.refusals.specs.declared.Answer.{Answer}
 use Rattle.refusals.specs.declared.Answer.the-variants.{Accepted}
@@ -47,7 +48,7 @@ none-above n w =
 task-same :
     (many : ℕ) (f g place : TaskField → ℕ)
     → ((x : TaskField) → IsTaskField many x → f x ≡ g x)
-    → taskRules _then_ limits many (lookAt f widthInTask place) ≡ taskRules _then_ limits many (lookAt g widthInTask place)
+    → taskRules _then_ keepable many (lookAt f widthInTask place) ≡ taskRules _then_ keepable many (lookAt g widthInTask place)
 unfolding taskRules firstOf
 task-same many f g place same =
     rw (
@@ -60,18 +61,24 @@ task-same many f g place same =
           (λ m. fitsAt (g (TaskField.time m)) (widthInTask (TaskField.time m)) (place (TaskField.time m)))
           (λ m below so-far. ap (λ (n : ℕ). fitsAt n (widthInTask (TaskField.time m)) (place (TaskField.time m))) (same (TaskField.time m) below)),
       sum-ext many {f = λ m. f (TaskField.time m)} {g = λ m. g (TaskField.time m)} (λ m below. same (TaskField.time m) below),
+      greatest-ext many {f = λ m. f (TaskField.time m)} {g = λ m. g (TaskField.time m)} (λ m below. same (TaskField.time m) below),
     )
 
--- a task whose numbers fit, whose deadline is not 0 and that runs has no fault, wherever it would start
+-- a task whose numbers fit, that runs and whose deadline can be kept has no fault, wherever it would start
 pub no-fault :
     (row : List ℕ) (m k : ℕ)
     → ((f : TaskField) → IsTaskField m f → taskNumber row k f < 2 ^ widthInTask f)
-    → 1 ≤ taskNumber row k TaskField.deadline
-    → 1 ≤ sum m (λ i. timeCell row k i)
+    → 1 ≤ greatest m (λ i. timeCell row k i)
+    → taskNumber row k TaskField.offset + greatest m (λ i. timeCell row k i) ≤ taskNumber row k TaskField.deadline
     → (q : ℕ) → taskFault row m k q ≡ Accepted
-no-fault row m k small due runs q =
-    rules.clear-task limits then-joins m (taskLook row k q)
-    record { there = λ f has. holds _ _ (lt-ltb _ _ (small f has)); due = due; runs = runs }
+no-fault row m k small runs room q =
+    rules.clear-task keepable then-joins m (taskLook row k q)
+    record {
+      there = λ f has. holds _ _ (lt-ltb _ _ (small f has));
+      due = omega (arith, runs, room);
+      runs = omega (arith, runs, greatest-sum m (λ i. timeCell row k i));
+      keepable = room;
+    }
 
 module _ (row : List ℕ) where
   -- ---- transaction u, which is not too many
@@ -120,7 +127,7 @@ small row u before p clear =
 
 abbrev pub faults : Table → ℕ → Answer
 faults tab u =
-    transactionRules _then_ limits (tab .frame) (before tab u) (part (Field.head u) (tableLook tab)) (λ j. part (Field.task u j) (tableLook tab))
+    transactionRules _then_ limits keepable (tab .frame) (before tab u) (part (Field.head u) (tableLook tab)) (λ j. part (Field.task u j) (tableLook tab))
 
 module _ (row : List ℕ) where
   abbrev tab : Table

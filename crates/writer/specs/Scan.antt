@@ -1,17 +1,17 @@
 -- What the scan of a row looks at in turn: the rules of each part of the table, its numbers as the row's readers give them, its
 -- place as it is counted up on the way.
 use mathlib.Core.List.{List}
-use Prim.Native.Nat.{ℕ, _+_, _^_, _≤_, _<_}
+use Prim.Native.Nat.{ℕ, _+_, _^_}
 use lib.Dec.{ltb}
 use Rattle.refusals.specs.declared.Answer.{Answer}
 use Rattle.refusals.specs.declared.Refusal.the-variants.{TooLarge}
 use Rattle.refusals.specs.Answer.{_then_, checked}
-use Rattle.table.specs.Sum.{sum}
-use Rattle.table.specs.Limits.{limits, timeWidth}
+use Rattle.table.specs.Limits.{limits}
 use Rattle.table.specs.Fields.{HeadField, TaskField, Field, widthInHead, widthInTask}
 use Rattle.table.specs.Fields.HeadField.{period, modes, tasks}
 use Rattle.table.specs.Fields.TaskField.{offset, jitter, blocking, deadline, priority, time}
 use Rattle.table.specs.Rules.{Look, part, headerRules, headRules, taskRules, transactionRules, bodyRules}
+use Rattle.table.specs.Rules.Deadlines.{keepable}
 use Rattle.row.specs.Row.{periodCell, modesCell, hasCell, offsetCell, jitterCell, blockingCell, deadlineCell, priorityCell, tableOf, headCell, bodyCell, timeCell}
 use Rattle.format.specs.Places.{placeInHead, placeInTask, taskAt}
 use Rattle.format.specs.Write.{tableLook}
@@ -45,11 +45,6 @@ headLook row u p = lookAt (headNumber row u) widthInHead (placeInHead p)
 abbrev pub taskLook : List ℕ → (k q : ℕ) → Look TaskField
 taskLook row k q = lookAt (taskNumber row k) widthInTask (placeInTask q)
 
--- the times of the task with number k, of m modes, fit their fields, and one of them is not 0
-pub record TimesSound (row : List ℕ) (m k : ℕ) : Type 0 where
-  pub small : (i : ℕ) → i < m → timeCell row k i < 2 ^ timeWidth
-  pub runs : 1 ≤ sum m (λ i. timeCell row k i)
-
 -- ---- the rules of each part
 
 abbrev pub headerFault : List ℕ → Answer
@@ -57,7 +52,7 @@ headerFault row = headerRules _then_ limits (part Field.header (tableLook (table
 
 -- the task with number k, of m modes, that would start at q
 abbrev pub taskFault : List ℕ → (m k q : ℕ) → Answer
-taskFault row m k q = taskRules _then_ limits m (taskLook row k q)
+taskFault row m k q = taskRules _then_ keepable m (taskLook row k q)
 
 -- the counts and the period of transaction u that would start at p, where `before` tasks stand before it
 abbrev pub headFault : List ℕ → (u before p : ℕ) → Answer
@@ -65,9 +60,9 @@ headFault row u before p = headRules _then_ limits (tableOf row .frame) before (
 
 abbrev pub transactionFault : List ℕ → (u before p : ℕ) → Answer
 transactionFault row u before p =
-    transactionRules _then_ limits (tableOf row .frame) before (headLook row u p)
+    transactionRules _then_ limits keepable (tableOf row .frame) before (headLook row u p)
     (λ j. taskLook row (before + j) (taskAt p (headCell row u modesCell) j))
 
 -- the transactions
 abbrev pub bodyFault : List ℕ → Answer
-bodyFault row = bodyRules _then_ limits (tableLook (tableOf row))
+bodyFault row = bodyRules _then_ limits keepable (tableLook (tableOf row))

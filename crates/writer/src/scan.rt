@@ -10,7 +10,7 @@ use row::Transaction;
 ghost use mathlib.Core.Path.{_≡_};
 ghost use mathlib.Core.Bool.{true};
 ghost use Prim.Native.Nat.{ℕ, _+_, _*_, _/_, _^_, _<_, _≤_};
-ghost use Rattle.table.specs.Sum.{sum};
+ghost use Rattle.table.specs.Sum.{greatest};
 ghost use Rattle.table.specs.Limits.{timeWidth, transactionsMost, modesMost, tasksMost, tasksInAll};
 ghost use Rattle.table.specs.Table.{transactions};
 ghost use Rattle.refusals.specs.declared.Answer.the-variants.{Accepted};
@@ -18,7 +18,7 @@ ghost use Rattle.refusals.specs.Answer.{_then_, firstOf};
 ghost use Rattle.row.specs.Row.{modesCell, hasCell, tableOf, headCell, timeCell};
 ghost use Rattle.format.specs.Places.{taskWidth, taskAt};
 ghost use Rattle.format.specs.Write.{tableFault};
-ghost use Rattle.writer.specs.Scan.{fitsAt, TimesSound, headerFault, taskFault, headFault, transactionFault, bodyFault};
+ghost use Rattle.writer.specs.Scan.{fitsAt, headerFault, taskFault, headFault, transactionFault, bodyFault};
 
 // What a number has above its lowest bits: 0 where it fits a field of that width.
 fn above(number: u32, width: usize) -> u32
@@ -81,54 +81,38 @@ fn times_fit(row: &[u32], modes: usize, k: usize, at: usize) -> Answer
     found
 }
 
-// The sum of the times of task k: 0 where the task never runs.
-fn times_sum(row: &[u32], modes: usize, k: usize) -> u64
+// The greatest of the times of task k.
+fn greatest_time(row: &[u32], modes: usize, k: usize) -> u32
     requires { ⌜ modes < 16 ⌝ }
-    ensures { λ r. ⌜ r ≡ sum modes (λ m. timeCell (now (row .entry)) k m) ⌝ }
+    ensures { λ r. ⌜ r ≡ greatest modes (λ m. timeCell (now (row .entry)) k m) ⌝ }
 {
-    let mut all: u64 = 0;
+    let mut most: u32 = 0;
     let mut m: usize = 0;
     while m < modes {
-        all = all + Table::time(row, k, m) as u64;
+        most = rules::greater(most, Table::time(row, k, m));
         m += 1;
     }
-    all
+    most
 }
 
-// The times of task k fit their fields, and one of them is not 0.
-fn times_sound(row: &[u32], modes: usize, k: usize) -> bool
-    requires { ⌜ modes < 16 ⌝ }
-    ensures { λ r. ⌜ (r ≡ true → TimesSound (now (row .entry)) modes k) ⌝ }
-{
-    let mut all: u64 = 0;
-    let mut m: usize = 0;
-    while m < modes {
-        let time = Table::time(row, k, m);
-        if above(time, Task::TIME_WIDTH) == 0 {
-            all = all + time as u64;
-        } else {
-            return false;
-        }
-        m += 1;
-    }
-    0 < all
-}
-
-// Task k has no fault, as nearly every task: asked before its checks one by one, by one test for the five numbers before its times,
-// of which nothing may lie above their fields.
+// Task k has no fault, as nearly every task: asked before its checks one by one, by one test for the five numbers before its times and
+// the greatest of these, of which nothing may lie above their fields. Where its deadline can be kept, that is not 0.
 fn is_sound(row: &[u32], modes: usize, k: usize) -> bool
     requires { ⌜ modes < 16 ⌝ }
     ensures { λ r. ⌜ (r ≡ true → (at : ℕ) → taskFault (now (row .entry)) modes k at ≡ Accepted) ⌝ }
 {
+    let offset = Table::offset(row, k);
     let due = Table::deadline(row, k);
-    let over = above(Table::offset(row, k), Task::OFFSET_WIDTH)
+    let time = greatest_time(row, modes, k);
+    let over = above(offset, Task::OFFSET_WIDTH)
         + above(Table::jitter(row, k), Task::JITTER_WIDTH)
         + above(Table::blocking(row, k), Task::BLOCKING_WIDTH)
         + above(due, Task::DEADLINE_WIDTH)
-        + above(Table::priority(row, k), Task::PRIORITY_WIDTH);
+        + above(Table::priority(row, k), Task::PRIORITY_WIDTH)
+        + above(time, Task::TIME_WIDTH);
     if over == 0 {
-        if 0 < due {
-            return times_sound(row, modes, k);
+        if 0 < time {
+            return rules::is_keepable(offset, time, due);
         }
     }
     false
@@ -142,8 +126,10 @@ fn task_fault(row: &[u32], modes: usize, k: usize, at: usize) -> Answer
 {
     let deadline = at + Task::DEADLINE_AT;
     let times = at + Task::TIMES_AT;
+    let offset = Table::offset(row, k);
     let due = Table::deadline(row, k);
-    fits(Table::offset(row, k), Task::OFFSET_WIDTH, at).then(fits(
+    let time = greatest_time(row, modes, k);
+    fits(offset, Task::OFFSET_WIDTH, at).then(fits(
             Table::jitter(row, k),
             Task::JITTER_WIDTH,
             at + Task::JITTER_AT,
@@ -165,7 +151,8 @@ fn task_fault(row: &[u32], modes: usize, k: usize, at: usize) -> Answer
             at + Task::PRIORITY_AT,
         ))
         .then(times_fit(row, modes, k, times))
-        .then(rules::times(times_sum(row, modes, k), times))
+        .then(rules::times(time, times))
+        .then(rules::keepable(offset, time, due, deadline))
 }
 
 // The same, where the checks are made only of a task that may have a fault.

@@ -1,163 +1,68 @@
--- `field_at` meets its contract. The invariant: `at` is where transaction u starts, `before` the tasks before it, and the place
--- does not lie before it.
-use mathlib.Core.Path.{_≡_, refl}
-use Prim.Native.Nat.{suc, _+_, _-_, _*_, _≤_, _<_, zero-le}
-use native.Mathlib.Numerals.{add-one}
+-- `field_at` meets its contract: a field of the header, of the transaction that the place lies in, or none.
+use borrow.Author.Needs.{needs}
+use Prim.Native.Nat.{ℕ, suc, _+_, _-_, _<_}
 use native.Mathlib.Omega.{arith}
 use denote.Ref.{now}
-use Rattle.table.specs.Sum.{sum}
-use Rattle.format.specs.Places.{past, start}
-use Rattle.format.specs.Said.{countIn, tasksBefore}
-use Rattle.format.proofs.Places.{count-small, modes-small, tasks-small, tasks-width, next-before, Near, near}
-use Rattle.places.specs.Held.{named, Held}
+use Rattle.format.specs.Places.{start}
+use Rattle.format.specs.Said.{countIn}
+use Rattle.format.proofs.Places.{count-small, modes-small, near}
 use Rattle.places.specs.Held.Held.{behind}
-use Rattle.places.specs.Find.{partAt}
-use Rattle.places.proofs.Tiles.{Owns}
-use Rattle.places.proofs.Answer.{held-header, held-part}
+use Rattle.places.specs.Owner.{OwnsAs}
+use Rattle.places.proofs.Answer.{held-header, held-owned}
 use Rattle.places.proofs.field_at.Statement.{statement}
 use Rattle.places.proofs.field_at.Tie as tie
 
-abbrev Inv-loop : tie.InvT-loop
-Inv-loop image place count before₀ at₀ u₀ before at u =
-    (count ≡ countIn image)
-    × (u ≤ count)
-    × (before ≡ tasksBefore image u)
-    × (at ≡ start image u)
-    × (at ≤ place)
+abbrev o-u : tie.After-known-told → ℕ
+o-u c = c .before .u .given .0 .0
 
-abbrev μ-loop : tie.MeasureT-loop
-μ-loop image place count before₀ at₀ u₀ before at u = count - u
+-- the transaction that the place lies in
+owned :
+    (c : tie.After-known-told)
+    → OwnsAs (now (c .before .before .before .before .before .before .args .image)) (c .before .before .before .before .before .before .args .place)
+    (c .before .u .given .0 .0) (c .before .u .given .0 .1 .0) (c .before .u .given .0 .1 .1 .0) (c .before .u .given .0 .1 .1 .1 .0)
+owned c = rw (c .before .u .given .1) at (c .before .before .before .owner-at .ensures)
 
-here : (c : tie.At-loop Inv-loop μ-loop) → (c .loop .u < 64) × (c .loop .before < 2048) × (c .loop .at < 1_000_000)
-here c =
-    let known : Near (now (c .before .before .before .before .args .image)) (c .loop .u) = near _ _ (omega arith) in
-    omega arith
+in-header-requires : tie.Need-in-header-requires
+in-header-requires c κs = search needs
 
-modes : (c : tie.After-modes-at Inv-loop μ-loop) → c .modes-at .result < 16
-modes c = rw (c .modes-at .ensures) (modes-small _ _)
-
-few : (c : tie.After-tasks-at Inv-loop μ-loop) → c .tasks-at .result < 32
-few c = rw (c .tasks-at .ensures) (tasks-small _ _)
-
--- the bits of its tasks
-width : (c : tie.After-task-width Inv-loop μ-loop) → c .before .tasks-at .result * c .task-width .result ≤ 14446
-width c = rw (c .task-width .ensures) (tasks-width (c .before .tasks-at .result) (c .before .before .modes-at .result) (few (c .before)) (modes (c .before .before)))
-
--- where the next transaction starts
-end :
-    (c : tie.After-task-width Inv-loop μ-loop)
-    → c .before .before .before .before .loop .at + 33 + c .before .tasks-at .result * c .task-width .result
-    ≡ start (now (c .before .before .before .before .before .before .before .before .args .image)) (suc (c .before .before .before .before .loop .u))
-unfolding start past
-end c =
-    let at-loop = c .before .before .before .before in
-    rw (c .task-width .ensures, c .before .tasks-at .ensures, c .before .before .modes-at .ensures, at-loop .loop .inv .3)
-
-in-header-requires : tie.Need-in-header-requires Inv-loop μ-loop
-in-header-requires c κs = tt
-
-returns : tie.Need-returns Inv-loop μ-loop
+returns : tie.Need-returns
 returns c = rw (c .in-header .ensures) (held-header _ _ (c .before .if1 .taken))
 
-value-requires : tie.Need-value-requires Inv-loop μ-loop
-value-requires c κs = tt
+owner-at-requires : tie.Need-owner-at-requires
+owner-at-requires c κs = search needs
 
-cast-count : tie.Need-cast-count Inv-loop μ-loop
-cast-count c = rw (c .value .ensures) (omega (arith, count-small (now (c .before .before .before .args .image))))
+enum-known-u : tie.Need-enum-known-u
+enum-known-u c = search needs
 
-loop-holds : tie.Need-loop-holds Inv-loop μ-loop
-unfolding start tasksBefore sum
-loop-holds c = (c .value .ensures, zero-le, refl, refl, c .before .if1 .left)
+sub-in-transaction : tie.Need-sub-in-transaction
+sub-in-transaction c = rw (owned c .starts) (owned c .owns .from)
 
-modes-at-requires : tie.Need-modes-at-requires Inv-loop μ-loop
-modes-at-requires c κs = omega (arith, here (c .before))
-
-tasks-at-requires : tie.Need-tasks-at-requires Inv-loop μ-loop
-tasks-at-requires c κs = omega (arith, here (c .before .before))
-
-add-end : tie.Need-add-end Inv-loop μ-loop
-add-end c = omega (arith, here (c .before .before .before))
-
-task-width-requires : tie.Need-task-width-requires Inv-loop μ-loop
-task-width-requires c κs = modes (c .before)
-
-mul-end : tie.Need-mul-end Inv-loop μ-loop
-mul-end c = omega (arith, width c)
-
-add-end-2 : tie.Need-add-end-2 Inv-loop μ-loop
-add-end-2 c = omega (arith, width c, here (c .before .before .before .before))
-
-sub-in-transaction : tie.Need-sub-in-transaction Inv-loop μ-loop
-sub-in-transaction c = c .before .before .before .before .before .loop .inv .4
-
-in-transaction-requires : tie.Need-in-transaction-requires Inv-loop μ-loop
+in-transaction-requires : tie.Need-in-transaction-requires
 in-transaction-requires c κs =
-    omega (arith, width (c .before), here (c .before .before .before .before .before), modes (c .before .before .before), c .if2 .taken)
+    let image = now (c .before .before .before .before .before .before .args .image) in
+    let o = owned c in
+    let few : countIn image < 64 = count-small image in
+    omega (arith, o .tasks, o .modes, modes-small image (start image (o-u c)), near image (o-u c) (omega (arith, o .counted)), near image (suc (o-u c)) (omega (arith, o .counted)), o .owns .below)
 
-returns-2 : tie.Need-returns-2 Inv-loop μ-loop
-returns-2 c =
-    let w = c .before .before in
-    let at-loop = w .before .before .before .before in
-    let image = now (at-loop .before .before .before .before .args .image) in
-    let place = at-loop .before .before .before .before .args .place in
-    let owns : Owns image (at-loop .loop .u) place =
-    record { from = rw (at-loop .loop .inv .3) at (at-loop .loop .inv .4); below = rw (end w) at (c .before .if2 .taken) } in
-    let held : Held image place (named (λ v j. at-loop .loop .before + j) (partAt (at-loop .loop .u) (w .before .before .modes-at .result) (place - at-loop .loop .at))) =
-    rw (w .before .before .modes-at .ensures, at-loop .loop .inv .2, at-loop .loop .inv .3)
-    (held-part image (at-loop .loop .u) place (omega (arith, w .before .before .before .loop-test .taken)) owns) in
-    rw (c .in-transaction .ensures) held
+enum-told : tie.Need-enum-told
+enum-told c = search needs
 
-add-before : tie.Need-add-before Inv-loop μ-loop
-add-before c = omega (arith, few (c .before .before), here (c .before .before .before .before .before))
+returns-2 : tie.Need-returns-2
+returns-2 c = rw (c .in-transaction .ensures) (held-owned _ _ _ _ _ _ (owned (c .before)))
 
-add-u : tie.Need-add-u Inv-loop μ-loop
-add-u c = omega (arith, here (c .before .before .before .before .before))
-
-loop-less : tie.Need-loop-less Inv-loop μ-loop
-loop-less c = omega (arith, c .before .before .before .before .loop-test .taken)
-
-loop-again : tie.Need-loop-again Inv-loop μ-loop
-loop-again c =
-    let w = c .before in
-    let at-loop = w .before .before .before .before in
-    let image = now (at-loop .before .before .before .before .args .image) in
-    let u = at-loop .loop .u in (
-      at-loop .loop .inv .0,
-      omega (arith, w .before .before .before .loop-test .taken),
-      rw (next-before image u, ← at-loop .loop .inv .2, ← at-loop .loop .inv .3, w .before .tasks-at .ensures),
-      rw (add-one u) (end w),
-      c .if2 .left,
-    )
-
-returns-3 : tie.Need-returns-3 Inv-loop μ-loop
-returns-3 c =
-    let at-loop = c .before in
-    let image = now (at-loop .before .before .before .before .args .image) in
-    let last : at-loop .loop .u ≡ countIn image = omega arith in
-    behind (rw (← last, ← at-loop .loop .inv .3) (at-loop .loop .inv .4))
+returns-3 : tie.Need-returns-3
+returns-3 c = behind (rw (c .enum-told .given .1) at (c .before .before .owner-at .ensures))
 
 pub field-at-spec : {M : Type 1} → statement M
 field-at-spec =
     tie.close
     (tie.spec
-    Inv-loop
-    μ-loop
     in-header-requires
     returns
-    value-requires
-    cast-count
-    loop-holds
-    modes-at-requires
-    tasks-at-requires
-    add-end
-    task-width-requires
-    mul-end
-    add-end-2
+    owner-at-requires
+    enum-known-u
     sub-in-transaction
     in-transaction-requires
+    enum-told
     returns-2
-    add-before
-    add-u
-    loop-less
-    loop-again
     returns-3)

@@ -1,12 +1,10 @@
 -- `scan::is_sound` meets its contract.
 use borrow.Author.Needs.{needs}
 use mathlib.Core.Path.{_≡_, sym, _∙_}
-use Prim.Native.Nat.{ℕ, _≤_}
+use Prim.Native.Nat.{ℕ, _+_, _≤_}
 use native.Mathlib.Omega.{arith}
-use borrow.Author.Tests.{le-leb, leb-true, ltb-true}
+use borrow.Author.Tests.{leb-true}
 use denote.Ref.{now}
-use Rattle.table.specs.Sum.{sum}
-use Rattle.format.specs.Said.{timeIn}
 use Rattle.format.proofs.Sound.{whole-task}
 use Rattle.image.proofs.scan.is_sound.Statement.{statement}
 use Rattle.image.proofs.scan.is_sound.Tie as tie
@@ -20,29 +18,37 @@ add-inside c = search needs
 inside-requires : tie.Need-inside-requires
 inside-requires c κs = search needs
 
-add-value : tie.Need-add-value
-add-value c = search needs
+add-greatest-time : tie.Need-add-greatest-time
+add-greatest-time c = search needs
+
+greatest-time-requires : tie.Need-greatest-time-requires
+greatest-time-requires c κs = search needs
 
 value-requires : tie.Need-value-requires
 value-requires c κs = search needs
 
-add-some-time : tie.Need-add-some-time
-add-some-time c = search needs
+add-value : tie.Need-add-value
+add-value c = search needs
 
-some-time-requires : tie.Need-some-time-requires
-some-time-requires c κs = search needs
+value-requires-2 : tie.Need-value-requires-2
+value-requires-2 c κs = search needs
+
+is-keepable-requires : tie.Need-is-keepable-requires
+is-keepable-requires c κs = search needs
 
 returns : tie.Need-returns
-returns c some =
-    let due = c .before .before in
-    let whole = due .before .before in
+returns c kept =
+    let due = c .before in
+    let offset = due .before in
+    let runs = offset .before in
+    let time = runs .before in
+    let whole = time .before .before in
     let a = whole .before .before .args in
-    let image = now (a .image) in
-    let positive : 1 ≤ c .some-time .result = omega (arith, ltb-true 0 (c .some-time .result) some) in
-    whole-task image (a .modes) (a .at)
-    (sym (whole .inside .ensures) ∙ due .before .if1 .taken)
-    (omega (arith, due .value .ensures))
-    (leb-true 1 (sum (a .modes) (timeIn image (a .at))) (sym (c .some-time .ensures) ∙ le-leb 1 (c .some-time .result) positive))
+    let room : offset .value .result + time .greatest-time .result ≤ due .value2 .result = leb-true _ _ (sym (c .is-keepable .ensures) ∙ kept) in
+    whole-task (now (a .image)) (a .modes) (a .at)
+    (sym (whole .inside .ensures) ∙ time .before .if1 .taken)
+    (omega (arith, runs .if2 .taken, time .greatest-time .ensures))
+    (omega (arith, room, offset .value .ensures, due .value2 .ensures, time .greatest-time .ensures))
 
 returns-2 : tie.Need-returns-2
 returns-2 c some = let z : _≡_ {A = ℕ} 0 1 = cc in absurd (omega arith)
@@ -57,10 +63,12 @@ is-sound-spec =
     mul-inside
     add-inside
     inside-requires
-    add-value
+    add-greatest-time
+    greatest-time-requires
     value-requires
-    add-some-time
-    some-time-requires
+    add-value
+    value-requires-2
+    is-keepable-requires
     returns
     returns-2
     returns-3)

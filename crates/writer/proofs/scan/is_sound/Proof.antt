@@ -1,12 +1,17 @@
--- `scan::is_sound` meets its contract: a sum that is 0 has no part that is not, so that every number fits.
+-- `scan::is_sound` meets its contract: a sum that is 0 has no part that is not, so that every number fits, and with the greatest time
+-- every time.
 use mathlib.Core.Path.{_≡_, sym}
-use mathlib.Core.Bool.{true≢false}
+use mathlib.Core.Bool.{true, true≢false}
 use Prim.Native.Nat.{ℕ, _+_, _/_, _^_, _<_}
 use native.Mathlib.Omega.{arith}
+use lib.Dec.{leb}
+use borrow.Author.Tests.{leb-true}
 use denote.Ref.{now}
-use Rattle.table.specs.Limits.{offsetWidth, jitterWidth, blockingWidth, deadlineWidth, priorityWidth}
+use Rattle.table.specs.Limits.{offsetWidth, jitterWidth, blockingWidth, deadlineWidth, priorityWidth, timeWidth}
 use Rattle.table.specs.Fields.TaskField.{offset, jitter, blocking, deadline, priority, time}
-use Rattle.row.specs.Row.{offsetCell, jitterCell, blockingCell, deadlineCell, priorityCell, bodyCell}
+use Rattle.table.specs.Sum.{greatest}
+use Rattle.table.proofs.Sum.{greatest-term}
+use Rattle.row.specs.Row.{offsetCell, jitterCell, blockingCell, deadlineCell, priorityCell, bodyCell, timeCell}
 use Rattle.writer.proofs.Scanned.{no-fault}
 use borrow.Author.Needs.{needs}
 use Rattle.writer.proofs.scan.is_sound.Statement.{statement}
@@ -14,16 +19,19 @@ use Rattle.writer.proofs.scan.is_sound.Tie as tie
 
 -- a sum that is 0 has no part that is not
 all-fit :
-    (o j b d p : ℕ)
-    → o / 2 ^ offsetWidth + j / 2 ^ jitterWidth + b / 2 ^ blockingWidth + d / 2 ^ deadlineWidth + p / 2 ^ priorityWidth ≡ 0
-    → (o < 2 ^ offsetWidth) × (j < 2 ^ jitterWidth) × (b < 2 ^ blockingWidth) × (d < 2 ^ deadlineWidth) × (p < 2 ^ priorityWidth)
-all-fit o j b d p none = (omega arith, omega arith, omega arith, omega arith, omega arith)
+    (o j b d p c : ℕ)
+    → o / 2 ^ offsetWidth + j / 2 ^ jitterWidth + b / 2 ^ blockingWidth + d / 2 ^ deadlineWidth + p / 2 ^ priorityWidth + c / 2 ^ timeWidth ≡ 0
+    → (o < 2 ^ offsetWidth) × (j < 2 ^ jitterWidth) × (b < 2 ^ blockingWidth) × (d < 2 ^ deadlineWidth) × (p < 2 ^ priorityWidth) × (c < 2 ^ timeWidth)
+all-fit o j b d p c none = (omega arith, omega arith, omega arith, omega arith, omega arith, omega arith)
+
+offset-requires : tie.Need-offset-requires
+offset-requires c κs = search needs
 
 deadline-requires : tie.Need-deadline-requires
 deadline-requires c κs = search needs
 
-offset-requires : tie.Need-offset-requires
-offset-requires c κs = search needs
+greatest-time-requires : tie.Need-greatest-time-requires
+greatest-time-requires c κs = search needs
 
 above-requires : tie.Need-above-requires
 above-requires c κs = search needs
@@ -61,16 +69,23 @@ above-requires-5 c κs = search needs
 add-over-4 : tie.Need-add-over-4
 add-over-4 c = search needs
 
-times-sound-requires : tie.Need-times-sound-requires
-times-sound-requires c κs = search needs
+above-requires-6 : tie.Need-above-requires-6
+above-requires-6 c κs = search needs
+
+add-over-5 : tie.Need-add-over-5
+add-over-5 c = search needs
+
+is-keepable-requires : tie.Need-is-keepable-requires
+is-keepable-requires c κs = search needs
 
 returns : tie.Need-returns
 returns c =
-    λ sound.
-    let a = c .before .before .before .before .before .before .before .before .before .before .before .before .before .before .args in
+    λ kept.
+    let a = c .before .before .before .before .before .before .before .before .before .before .before .before .before .before .before .before .args in
     let cell = bodyCell (now (a .row)) (a .k) in
-    let small = all-fit (cell offsetCell) (cell jitterCell) (cell blockingCell) (cell deadlineCell) (cell priorityCell) (cc) in
-    let times = c .times-sound .ensures sound in
+    let most : ℕ = greatest (a .modes) (λ i. timeCell (now (a .row)) (a .k) i) in
+    let small = all-fit (cell offsetCell) (cell jitterCell) (cell blockingCell) (cell deadlineCell) (cell priorityCell) most (cc) in
+    let asked : leb (cell offsetCell + most) (cell deadlineCell) ≡ true = cc in
     no-fault (now (a .row)) (a .modes) (a .k)
     (λ f.
     elim f [
@@ -79,10 +94,10 @@ returns c =
       | blocking ↦ λ has. small .2
       | deadline ↦ λ has. small .3
       | priority ↦ λ has. small .4
-      | time m ↦ λ has. times .small m has
+      | time m ↦ λ has. omega (arith, small .5, greatest-term (a .modes) (λ i. timeCell (now (a .row)) (a .k) i) m has)
     ])
     (omega arith)
-    (times .runs)
+    (leb-true (cell offsetCell + most) (cell deadlineCell) asked)
 
 returns-2 : tie.Need-returns-2
 returns-2 c = λ sound. absurd (true≢false (sym sound))
@@ -94,8 +109,9 @@ pub is-sound-spec : {M : Type 1} → statement M
 is-sound-spec =
     tie.close
     (tie.spec
-    deadline-requires
     offset-requires
+    deadline-requires
+    greatest-time-requires
     above-requires
     jitter-requires
     above-requires-2
@@ -108,7 +124,9 @@ is-sound-spec =
     priority-requires
     above-requires-5
     add-over-4
-    times-sound-requires
+    above-requires-6
+    add-over-5
+    is-keepable-requires
     returns
     returns-2
     returns-3)

@@ -1,7 +1,9 @@
--- `scan::task_fault` meets its contract: one chain of checks, rewritten by what each call ensures, the last first.
+-- `scan::task_fault` meets its contract: one chain of checks, rewritten by what each call ensures, the last first. That a task runs is
+-- asked of its greatest time, and of the sum of its times in the rule.
 use native.Mathlib.Nat.{add-zero}
 use native.Mathlib.Omega.{arith}
 use Rattle.table.specs.Rules.{taskRules}
+use Rattle.table.proofs.Sum.{greatest-some}
 use Rattle.refusals.specs.Answer.{firstOf}
 use borrow.Author.Needs.{needs}
 use Rattle.writer.proofs.scan.task_fault.Statement.{statement}
@@ -13,11 +15,14 @@ add-deadline c = search needs
 add-times : tie.Need-add-times
 add-times c = search needs
 
+offset-requires : tie.Need-offset-requires
+offset-requires c κs = tt
+
 deadline-requires : tie.Need-deadline-requires
 deadline-requires c κs = tt
 
-offset-requires : tie.Need-offset-requires
-offset-requires c κs = tt
+greatest-time-requires : tie.Need-greatest-time-requires
+greatest-time-requires c κs = search needs
 
 fits-requires : tie.Need-fits-requires
 fits-requires c κs = search needs
@@ -68,13 +73,10 @@ then-requires-4 : tie.Need-then-requires-4
 then-requires-4 c κs = tt
 
 times-fit-requires : tie.Need-times-fit-requires
-times-fit-requires c κs = omega (arith, c .before .before .before .before .before .before .before .before .before .before .before .before .before .before .before .before .pre)
+times-fit-requires c κs = omega (arith, c .before .before .before .before .before .before .before .before .before .before .before .before .before .before .before .before .before .pre)
 
 then-requires-5 : tie.Need-then-requires-5
 then-requires-5 c κs = tt
-
-times-sum-requires : tie.Need-times-sum-requires
-times-sum-requires c κs = c .before .before .before .before .before .before .before .before .before .before .before .before .before .before .before .before .before .before .pre .0
 
 times-requires : tie.Need-times-requires
 times-requires c κs = tt
@@ -82,10 +84,16 @@ times-requires c κs = tt
 then-requires-6 : tie.Need-then-requires-6
 then-requires-6 c κs = tt
 
+keepable-requires : tie.Need-keepable-requires
+keepable-requires c κs = tt
+
+then-requires-7 : tie.Need-then-requires-7
+then-requires-7 c κs = tt
+
 returns : tie.Need-returns
 unfolding taskRules firstOf
 returns c =
-    rw (c .then6 .ensures, c .before .times .ensures, c .before .before .times-sum .ensures, c .before .before .before .then5 .ensures, c .before .before .before .before .times-fit .ensures, c .before .before .before .before .before .then4 .ensures, c .before .before .before .before .before .before .fits5 .ensures, c .before .before .before .before .before .before .before .priority .ensures, c .before .before .before .before .before .before .before .before .then3 .ensures, c .before .before .before .before .before .before .before .before .before .field .ensures, c .before .before .before .before .before .before .before .before .before .before .deadline2 .ensures, c .before .before .before .before .before .before .before .before .before .before .before .then2 .ensures, c .before .before .before .before .before .before .before .before .before .before .before .before .fits4 .ensures, c .before .before .before .before .before .before .before .before .before .before .before .before .before .blocking .ensures, c .before .before .before .before .before .before .before .before .before .before .before .before .before .before .then .ensures, c .before .before .before .before .before .before .before .before .before .before .before .before .before .before .before .fits3 .ensures, c .before .before .before .before .before .before .before .before .before .before .before .before .before .before .before .before .jitter .ensures, c .before .before .before .before .before .before .before .before .before .before .before .before .before .before .before .before .before .fits2 .ensures, c .before .before .before .before .before .before .before .before .before .before .before .before .before .before .before .before .before .before .offset .ensures, c .before .before .before .before .before .before .before .before .before .before .before .before .before .before .before .before .before .before .before .deadline .ensures, add-zero)
+    rw (c .then7 .ensures, c .before .keepable .ensures, c .before .before .then6 .ensures, c .before .before .before .times .ensures, c .before .before .before .before .then5 .ensures, c .before .before .before .before .before .times-fit .ensures, c .before .before .before .before .before .before .then4 .ensures, c .before .before .before .before .before .before .before .fits5 .ensures, c .before .before .before .before .before .before .before .before .priority .ensures, c .before .before .before .before .before .before .before .before .before .then3 .ensures, c .before .before .before .before .before .before .before .before .before .before .field .ensures, c .before .before .before .before .before .before .before .before .before .before .before .deadline2 .ensures, c .before .before .before .before .before .before .before .before .before .before .before .before .then2 .ensures, c .before .before .before .before .before .before .before .before .before .before .before .before .before .fits4 .ensures, c .before .before .before .before .before .before .before .before .before .before .before .before .before .before .blocking .ensures, c .before .before .before .before .before .before .before .before .before .before .before .before .before .before .before .then .ensures, c .before .before .before .before .before .before .before .before .before .before .before .before .before .before .before .before .fits3 .ensures, c .before .before .before .before .before .before .before .before .before .before .before .before .before .before .before .before .before .jitter .ensures, c .before .before .before .before .before .before .before .before .before .before .before .before .before .before .before .before .before .before .fits2 .ensures, c .before .before .before .before .before .before .before .before .before .before .before .before .before .before .before .before .before .before .before .greatest-time .ensures, c .before .before .before .before .before .before .before .before .before .before .before .before .before .before .before .before .before .before .before .before .deadline .ensures, c .before .before .before .before .before .before .before .before .before .before .before .before .before .before .before .before .before .before .before .before .before .offset .ensures, greatest-some, add-zero)
 
 pub task-fault-spec : {M : Type 1} → statement M
 task-fault-spec =
@@ -93,8 +101,9 @@ task-fault-spec =
     (tie.spec
     add-deadline
     add-times
-    deadline-requires
     offset-requires
+    deadline-requires
+    greatest-time-requires
     fits-requires
     jitter-requires
     add-fits
@@ -113,7 +122,8 @@ task-fault-spec =
     then-requires-4
     times-fit-requires
     then-requires-5
-    times-sum-requires
     times-requires
     then-requires-6
+    keepable-requires
+    then-requires-7
     returns)
