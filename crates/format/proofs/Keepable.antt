@@ -8,7 +8,6 @@ use Rattle.refusals.specs.declared.Answer.the-variants.{Accepted, Refused}
 use Rattle.refusals.proofs.Findings.{then-joins, none-first, none-second, Stays, stays-accepted, stays-refused, stays-then}
 use Rattle.table.specs.Table.{Table}
 use Rattle.table.specs.Limits.{Limits, limits}
-use Rattle.table.specs.Fields.{numberIn}
 use Rattle.table.specs.Rules.Deadlines.{any, keepable}
 use Rattle.table.specs.Raised.{limitsBefore}
 use Rattle.table.specs.Keepable.{EachKeepable, IsShort}

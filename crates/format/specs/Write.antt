@@ -1,6 +1,5 @@
 -- What is asked of a table that is to be written: where each of its fields would stand in its image, the first fault of the
 -- table, by the rules that the reader has, and last that the image has room.
-use mathlib.Core.List.{List}
 use Prim.Native.Nat.{ℕ, zero, suc, _^_}
 use lib.ListN.{length}
 use lib.Dec.{ltb, leb}

@@ -2,7 +2,7 @@
 -- one that so many whole tasks stand before.
 use mathlib.Core.Path.{_≡_, refl}
 use mathlib.Core.List.{List}
-use Prim.Native.Nat.{ℕ, _+_, _-_, _*_, _/_, _%_, _≤_, _<_}
+use Prim.Native.Nat.{ℕ, _-_, _/_, _%_, _≤_, _<_}
 use native.Mathlib.Nat.{div-add-mod'}
 use native.Mathlib.Omega.{arith}
 use borrow.Author.Tests.{lt-ltb, le-ltb}
@@ -14,7 +14,7 @@ use Rattle.places.specs.declared.Spot.{Spot}
 use Rattle.places.specs.declared.Spot.the-variants.{Task, NoTask}
 use Rattle.places.specs.Held.{Holds}
 use Rattle.places.specs.Owner.{OwnsAs, InTaskAt, SpotAt}
-use Rattle.places.specs.Find.{headerFieldAt, headFieldAt, taskFieldAt, partAt, partIn}
+use Rattle.places.specs.Find.{headerFieldAt, headFieldAt, taskFieldAt, partAt}
 use Rattle.places.proofs.Parts.{header-among}
 use Rattle.places.proofs.Tiles.{part-holds, holds-is, one-field}
 

@@ -3,7 +3,7 @@
 use mathlib.Core.Path.{_≡_, refl}
 use mathlib.Core.List.{List, [], _∷_, _++_, map}
 use Prim.Native.Nat.{ℕ}
-use lib.ListN.{length, replicate}
+use lib.ListN.{replicate}
 use Rattle.bits.specs.Bits.{fieldBits}
 use Rattle.refusals.specs.declared.Refusal.the-variants.{DeadlineZero, DeadlineShort, BufferShort}
 use Rattle.table.specs.Lists.{joined}

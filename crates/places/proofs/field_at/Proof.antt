@@ -1,6 +1,6 @@
 -- `field_at` meets its contract: a field of the header, of the transaction that the place lies in, or none.
 use borrow.Author.Needs.{needs}
-use Prim.Native.Nat.{ℕ, suc, _+_, _-_, _<_}
+use Prim.Native.Nat.{ℕ, suc, _-_, _<_}
 use native.Mathlib.Omega.{arith}
 use denote.Ref.{now}
 use Rattle.format.specs.Places.{start}

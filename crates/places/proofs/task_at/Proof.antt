@@ -1,6 +1,6 @@
 -- `task_at` meets its contract: the task by what the whole tasks before it leave of the place.
 use borrow.Author.Needs.{needs}
-use Prim.Native.Nat.{_-_, _%_, _≤_}
+use Prim.Native.Nat.{_-_}
 use native.Mathlib.Nat.{mod-le}
 use native.Mathlib.Omega.{arith}
 use denote.Ref.{now}
