@@ -2,7 +2,7 @@
 use mathlib.Core.Path.{_≡_}
 use mathlib.Core.List.{List}
 use Prim.Native.Nat.{ℕ}
-use Rattle.table.specs.Table.{offset, deadline}
+use Rattle.table.specs.Table as of
 use Rattle.table.specs.Keepable.{greatestTime}
 use Rattle.table.specs.Fields.{TaskField}
 use Rattle.table.specs.Fields.Field.{task}
@@ -17,9 +17,9 @@ pub record DueOf (image : List ℕ) (p o c d : ℕ) : Type 0 where
   pub j : ℕ
   pub field : TaskField
   pub holds : Holds image (task u j field) p
-  pub offset : o ≡ Rattle.table.specs.Table.offset (tableIn image) u j
+  pub offset : o ≡ of.offset (tableIn image) u j
   pub time : c ≡ greatestTime (tableIn image) u j
-  pub deadline : d ≡ Rattle.table.specs.Table.deadline (tableIn image) u j
+  pub deadline : d ≡ of.deadline (tableIn image) u j
 
 -- or that no field of a task holds it
 abbrev pub DueAt : List ℕ → (p : ℕ) → Due → Type 0
