@@ -1,3 +1,4 @@
 pub mod Unique
+pub mod Budget
 pub mod Composed
 pub mod Adds

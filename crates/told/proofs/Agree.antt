@@ -2,9 +2,10 @@
 -- lent cells and budget is one answer, one row of cells and one number.
 use mathlib.Core.Path.{_≡_, refl, sym, ap, ap₂, _∙_}
 use mathlib.Core.List.{List, _++_}
-use Prim.Native.Nat.{ℕ, _*_, _^_, _/_, _%_, _≤_, _<_}
+use Prim.Native.Nat.{ℕ, _+_, _*_, _^_, _/_, _%_, _<_}
 use native.Mathlib.Omega.{arith}
-use lib.ListN.{drop}
+use lib.ListN.{getD, drop}
+use lib.Seq.{getD-take, getD-drop, drop-at}
 use Rattle.table.specs.Table.{Table}
 use Rattle.table.specs.Number.{inAll}
 use Rattle.table.specs.Lists.{joined}
@@ -20,10 +21,10 @@ use Rattle.format.proofs.Kept.{kept}
 use Rattle.analysis.specs.Answer.{Cells}
 use Rattle.told.specs.declared.Filled.{Filled}
 use Rattle.told.specs.declared.Filled.the-variants as filled
-use Rattle.told.specs.Cells.{cellsOfTask, listed, cellsIn}
+use Rattle.told.specs.Cells.{cellsOfTask, listed, cellsIn, codeIn}
 use Rattle.told.specs.Told.{filledNumber, filledPlace, OwedAt, Written, FillsFrom, Fills, paired, RespondsFrom, Responds}
-use Rattle.told.proofs.Cells.{listed-unique, told-in}
-use Rattle.told.proofs.Told.{place-small, owed-bound, owed-one, owed-more}
+use Rattle.told.proofs.Cells.{listed-unique, length-told, told-in}
+use Rattle.told.proofs.Told.{place-small, owed-bound, owed-one}
 
 -- ---- one row of cells
 
@@ -44,15 +45,32 @@ module _ {tab : Table} (keeps : Kept tab) {budget : ℕ} {before after : List �
       ap (λ (cells : List ℕ). cellsIn cells k) (w .is)
       ∙ told-in (w .told) (inAll tab) (drop (cellsOfTask * inAll tab) before) k l
 
+  -- the first of these is its code
+  pub written-code : {k : ℕ} → k < inAll tab → codeIn after k ≡ w .told k .code
+  unfolding cellsIn listed
+  written-code {k} l =
+      let i : cellsOfTask * k + 0 ≡ cellsOfTask * k = omega arith in
+      ap (λ (n : ℕ). getD after n 0) (sym i)
+      ∙ sym (getD-drop (cellsOfTask * k) after 0 0)
+      ∙ sym (getD-take cellsOfTask (drop (cellsOfTask * k) after) 0 0 (omega arith))
+      ∙ ap (λ (cells : List ℕ). getD cells 0 0) (written-in l)
+
+  -- and what lies behind the tasks is as it was
+  pub written-behind : drop (cellsOfTask * inAll tab) after ≡ drop (cellsOfTask * inAll tab) before
+  written-behind =
+      ap (drop (cellsOfTask * inAll tab)) (w .is)
+      ∙ drop-at (joined (inAll tab) (λ k. listed (w .told k))) (drop (cellsOfTask * inAll tab) before) (cellsOfTask * inAll tab)
+      (length-told (w .told) (inAll tab))
+
   written-unique : {other : List ℕ} → Written tab budget before other → after ≡ other
   written-unique v = written-joined (v .told) (v .each) ∙ sym (v .is)
 
 -- ---- the contract of `cells`
 
-clash : (image : List ℕ) {refusal : Refusal} {at : ℕ} → imageFault image ≡ Refused refusal at → IsAccepted image → ⊥
+pub clash : (image : List ℕ) {refusal : Refusal} {at : ℕ} → imageFault image ≡ Refused refusal at → IsAccepted image → ⊥
 clash image e ok = let z : _≡_ {A = ℕ} 0 1 = cc in omega arith
 
-refused-unique :
+pub refused-unique :
     (image : List ℕ) {x y : Refusal} {n m : ℕ}
     → imageFault image ≡ Refused x n
     → imageFault image ≡ Refused y m
@@ -147,9 +165,9 @@ agree-refused no-table (Fills.accepted ok f) x = absurd (no-table ok)
 
 -- ---- the host's number taken apart
 
-parts : (x y : ℕ) → y < 2 ^ 32 → (paired x y / 2 ^ 32 ≡ x) × (paired x y % 2 ^ 32 ≡ y)
+pub paired-parts : (x y : ℕ) → y < 2 ^ 32 → (paired x y / 2 ^ 32 ≡ x) × (paired x y % 2 ^ 32 ≡ y)
 unfolding paired
-parts x y h = (omega arith, omega arith)
+paired-parts x y h = (omega arith, omega arith)
 
 -- of a refused image: the number, and the place
 pub refused-parts :
@@ -157,7 +175,7 @@ pub refused-parts :
     → imageFault image ≡ Refused refusal at
     → Responds image task budget r
     → (r / 2 ^ 32 ≡ refusalNumber refusal) × (r % 2 ^ 32 ≡ at)
-refused-parts image h x = rw (responds-unique x (Responds.refused h)) (parts _ _ (place-small image h))
+refused-parts image h x = rw (responds-unique x (Responds.refused h)) (paired-parts _ _ (place-small image h))
 
 -- of a task: the code, and the bound
 pub told-parts :
@@ -168,24 +186,4 @@ pub told-parts :
     → (r / 2 ^ 32 ≡ c .code) × (r % 2 ^ 32 ≡ c .bound)
 told-parts {image} {c = c} ok o x =
     rw (responds-unique x (Responds.accepted ok (RespondsFrom.told o)))
-    (parts (c .code) (c .bound) (owed-bound (kept image ok) (o .isTask) (o .owed)))
-
--- ---- a greater budget
-
--- it changes only the cells of tasks that had the code 23
-pub greater-cells :
-    {image : List ℕ} {b d n m : ℕ} {before after raw other : List ℕ} (c : Cells)
-    → b ≤ d
-    → Fills image b before after (filled.Done n)
-    → Fills image d raw other (filled.Done m)
-    → (k : ℕ)
-    → k < inAll (tableIn image)
-    → cellsIn after k ≡ listed c
-    → ¬ (c .code ≡ 23)
-    → cellsIn after k ≡ cellsIn other k
-greater-cells {image} c l (Fills.accepted ok (FillsFrom.done w)) (Fills.accepted yet (FillsFrom.done v)) k h e other =
-    let keeps = kept image ok in
-    let is : c ≡ w .told k = listed-unique (sym e ∙ written-in keeps w h) in
-    written-in keeps w h
-    ∙ ap listed (owed-more keeps l (w .each k h) (v .each k h) (λ f. other (ap (λ (c : Cells). c .code) is ∙ f)))
-    ∙ sym (written-in keeps v h)
+    (paired-parts (c .code) (c .bound) (owed-bound (kept image ok) (o .isTask) (o .owed)))

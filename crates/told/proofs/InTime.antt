@@ -1,12 +1,11 @@
 -- Whether every task keeps its deadline, by the cells: where every code is 0 it does, in every legal run.
-use mathlib.Core.Bool.{true, false}
+use mathlib.Core.Bool.{true}
 use mathlib.Core.Path.{_≡_, refl, sym, ap, _∙_}
-use mathlib.Core.List.{List, [], _∷_, _++_}
-use Prim.Native.Nat.{ℕ, zero, suc, _+_, _*_, _≤_, _<_}
+use mathlib.Core.List.{List}
+use Prim.Native.Nat.{ℕ, zero, suc, _*_, _≤_, _<_}
 use native.Mathlib.Decide.{decLe}
 use native.Mathlib.Omega.{arith}
-use lib.ListN.{length, getD, take, drop, length-append}
-use lib.Seq.{getD-take, getD-drop}
+use lib.ListN.{length, drop, length-append}
 use Rattle.table.specs.Table.{Table, IsTask, deadline}
 use Rattle.table.specs.Number.{inAll, number}
 use Rattle.table.specs.Lists.{joined}
@@ -19,12 +18,12 @@ use Rattle.analysis.specs.Answer.{Cells, cells, codeBy}
 use Rattle.runs.specs.Promise.{Safe}
 use Rattle.runs.proofs.Demand.{safe-later}
 use Rattle.told.specs.declared.Filled.the-variants as filled
-use Rattle.told.specs.Cells.{cellsOfTask, listed, cellsIn, isKept, areKept}
-use Rattle.told.specs.Told.{Owed, OwedAt, Written, FillsFrom, Fills, InTime}
+use Rattle.told.specs.Cells.{cellsOfTask, listed, codeIn, areKept}
+use Rattle.told.specs.Told.{Owed, Written, FillsFrom, Fills, InTime}
 use Rattle.told.proofs.Cells.{length-told}
 use Rattle.told.proofs.Verdict.{kept-here, kept-next, kept-code, kept-each}
 use Rattle.told.proofs.Told.{owed-to}
-use Rattle.told.proofs.Agree.{written-in}
+use Rattle.told.proofs.Agree.{written-code}
 
 -- what is owed with code 0 is a bound within the deadline
 owed-kept : {tab : Table} {u a budget : ℕ} {c : Cells} → IsTask tab u a → Owed tab u a budget c → c .code ≡ 0 → Safe tab u a (deadline tab u a)
@@ -42,16 +41,6 @@ owed-kept {tab} {u} {a} isTask o z = go (o .answer) refl (ap (λ (c : Cells). c 
     go (definition.spent n) e h = absurd (omega (arith, h))
 
 module _ {tab : Table} (keeps : Kept tab) {budget : ℕ} {before after : List ℕ} (w : Written tab budget before after) where
-  -- the code cell of task k
-  code-in : {k : ℕ} → k < inAll tab → getD after (cellsOfTask * k) 0 ≡ w .told k .code
-  unfolding cellsIn listed
-  code-in {k} l =
-      let i : cellsOfTask * k + 0 ≡ cellsOfTask * k = omega arith in
-      ap (λ (n : ℕ). getD after n 0) (sym i)
-      ∙ sym (getD-drop (cellsOfTask * k) after 0 0)
-      ∙ sym (getD-take cellsOfTask (drop (cellsOfTask * k) after) 0 0 (omega arith))
-      ∙ ap (λ (cells : List ℕ). getD cells 0 0) (written-in keeps w l)
-
   room-after : {k : ℕ} → k < inAll tab → cellsOfTask * suc k ≤ length after
   room-after {k} l =
       let all = joined (inAll tab) (λ k. listed (w .told k)) in
@@ -62,10 +51,10 @@ module _ {tab : Table} (keeps : Kept tab) {budget : ℕ} {before after : List �
   written-kept all u a isTask =
       let k = number tab u a in
       let l : k < inAll tab = number-lt tab isTask in
-      let code : getD after (cellsOfTask * k) 0 ≡ 0 = kept-code after k (kept-each after k (inAll tab) l all) in
-      owed-kept isTask (owed-to keeps (w .each k l) isTask refl) (sym (code-in l) ∙ code)
+      let code : codeIn after k ≡ 0 = kept-code after k (kept-each after k (inAll tab) l all) in
+      owed-kept isTask (owed-to keeps (w .each k l) isTask refl) (sym (written-code keeps w l) ∙ code)
 
-  written-codes : ((k : ℕ) → k < inAll tab → getD after (cellsOfTask * k) 0 ≡ 0) → (n : ℕ) → n ≤ inAll tab → areKept after n ≡ true
+  written-codes : ((k : ℕ) → k < inAll tab → codeIn after k ≡ 0) → (n : ℕ) → n ≤ inAll tab → areKept after n ≡ true
   unfolding areKept
   written-codes zeroed zero l = refl
   written-codes zeroed (suc n) l =
@@ -84,6 +73,6 @@ kept-in-time {image} (Fills.accepted ok (FillsFrom.done w)) all = written-kept (
 pub codes-kept :
     {image : List ℕ} {budget n : ℕ} {before after : List ℕ}
     → Fills image budget before after (filled.Done n)
-    → ((k : ℕ) → k < n → getD after (cellsOfTask * k) 0 ≡ 0)
+    → ((k : ℕ) → k < n → codeIn after k ≡ 0)
     → areKept after n ≡ true
 codes-kept {image} {n = n} (Fills.accepted ok (FillsFrom.done w)) zeroed = written-codes (kept image ok) w zeroed n (omega arith)

@@ -1,7 +1,7 @@
 -- What the contracts say of document 01's sample S and of the empty image: the cells that `cells` may leave, and the one
 -- number that the host may get.
 use mathlib.Core.Path.{_≡_, refl, sym, subst}
-use mathlib.Core.List.{List, [], _∷_}
+use mathlib.Core.List.{List, [], _∷_, _++_}
 use Prim.Native.Nat.{ℕ, zero, suc, _≤_, _<_}
 use native.Mathlib.Omega.{arith}
 use lib.ListN.{length, drop}
@@ -17,7 +17,7 @@ use Rattle.format.specs.Fault.{imageFault, IsAccepted}
 use Rattle.format.specs.Computing.{computing as reading}
 use Rattle.format.proofs.Kept.{kept}
 use Rattle.periods.specs.Charge.{imposed}
-use Rattle.analysis.specs.Answer.{Named, Answer, bound, Cells, cells}
+use Rattle.analysis.specs.Answer.{Named, Answer, bound, Cells, cells, unbounded}
 use Rattle.analysis.specs.Walk.{answer}
 use Rattle.analysis.specs.Computing.{computing}
 use Rattle.analysis.proofs.Charges.{imposed-fair}
@@ -26,6 +26,7 @@ use Rattle.told.specs.declared.Filled.{Filled}
 use Rattle.told.specs.declared.Filled.the-variants as filled
 use Rattle.told.specs.Cells.{listed}
 use Rattle.told.specs.Told.{Owed, OwedAt, FillsFrom, Fills, paired, RespondsFrom, Responds}
+use Rattle.told.specs.Budget.{five, six}
 use Rattle.told.proofs.Told.{owed}
 use Rattle.told.proofs.Agree.{written-joined, fills-unique, responds-unique}
 
@@ -52,7 +53,15 @@ empty-refused = refl
 pub S-kept : Kept S
 S-kept = rw S-table at (kept imageS S-accepted)
 
--- task 2 of S
+-- its tasks 0, 1 and 2
+first-S : IsTask S 0 0
+unfolding computing
+first-S = record { owner = omega arith; place = omega arith }
+
+second-S : IsTask S 0 1
+unfolding computing
+second-S = record { owner = omega arith; place = omega arith }
+
 pub last-S : IsTask S 1 0
 unfolding computing
 last-S = record { owner = omega arith; place = omega arith }
@@ -62,6 +71,22 @@ cellsS : ℕ → Cells
 cellsS zero = record { code = 0; bound = 2; evaluations = 3; mode = 0; candidate = 0; job = 0 }
 cellsS (suc zero) = record { code = 0; bound = 7; evaluations = 5; mode = 0; candidate = 1; job = 0 }
 cellsS (suc (suc k)) = record { code = 20; bound = 5; evaluations = 6; mode = 0; candidate = 2; job = 0 }
+
+-- the row of S where its tasks are owed these cells: six a task, and then what was there
+S-row :
+    {budget : ℕ} {before after : List ℕ} {r : Filled} (told : ℕ → Cells)
+    → ((k : ℕ) → k < inAll S → OwedAt S k budget (told k))
+    → 18 ≤ length before
+    → Fills imageS budget before after r
+    → (r ≡ filled.Done 3) × (after ≡ joined 3 (λ k. listed (told k)) ++ drop 18 before)
+unfolding computing
+S-row told each room (Fills.refused h e) = let z : _≡_ {A = ℕ} 0 1 = cc S-accepted in absurd (omega arith)
+S-row {budget} {before} {after} {r} told each room (Fills.accepted ok f) =
+    go (subst (λ (tab : Table). FillsFrom tab budget before after r) S-table f)
+  where
+    go : {q : Filled} → FillsFrom S budget before after q → (q ≡ filled.Done 3) × (after ≡ joined 3 (λ k. listed (told k)) ++ drop 18 before)
+    go (FillsFrom.short l e) = absurd (omega arith)
+    go (FillsFrom.done w) = (refl, written-joined S-kept w told each)
 
 module _ {budget : ℕ} (enough : 6 ≤ budget) where
   -- with six evaluations no task of S is short, so a greater budget changes nothing
@@ -77,29 +102,19 @@ module _ {budget : ℕ} (enough : 6 ≤ budget) where
 
   each : (k : ℕ) → k < inAll S → OwedAt S k budget (cellsS k)
   unfolding computing cellsS cells
-  each zero l = owed-S-at {u = 0} {a = 0} (record { owner = omega arith; place = omega arith }) refl
-  each (suc zero) l = owed-S-at {u = 0} {a = 1} (record { owner = omega arith; place = omega arith }) refl
-  each (suc (suc zero)) l = owed-S-at {u = 1} {a = 0} last-S refl
+  each zero l = owed-S-at first-S refl
+  each (suc zero) l = owed-S-at second-S refl
+  each (suc (suc zero)) l = owed-S-at last-S refl
   each (suc (suc (suc k))) l = absurd (omega arith)
 
-  -- the listing of S, six cells a task, and then what was there
-  S-from :
-      {before after : List ℕ} {r : Filled}
-      → 18 ≤ length before
-      → FillsFrom S budget before after r
-      → (r ≡ filled.Done 3) × (after ≡ 0 ∷ 2 ∷ 3 ∷ 0 ∷ 0 ∷ 0 ∷ 0 ∷ 7 ∷ 5 ∷ 0 ∷ 1 ∷ 0 ∷ 20 ∷ 5 ∷ 6 ∷ 0 ∷ 2 ∷ 0 ∷ drop 18 before)
-  unfolding computing joined listed cellsS
-  S-from room (FillsFrom.short l e) = absurd (omega arith)
-  S-from room (FillsFrom.done w) = (refl, written-joined S-kept w cellsS each)
-
+  -- the listing of S
   pub S-cells :
       {before after : List ℕ} {r : Filled}
       → 18 ≤ length before
       → Fills imageS budget before after r
-      → (r ≡ filled.Done 3) × (after ≡ 0 ∷ 2 ∷ 3 ∷ 0 ∷ 0 ∷ 0 ∷ 0 ∷ 7 ∷ 5 ∷ 0 ∷ 1 ∷ 0 ∷ 20 ∷ 5 ∷ 6 ∷ 0 ∷ 2 ∷ 0 ∷ drop 18 before)
-  S-cells room (Fills.refused h e) = let z : _≡_ {A = ℕ} 0 1 = cc S-accepted in absurd (omega arith)
-  S-cells {before} {after} {r} room (Fills.accepted ok f) =
-      S-from room (subst (λ (tab : Table). FillsFrom tab budget before after r) S-table f)
+      → (r ≡ filled.Done 3) × (after ≡ six ++ drop 18 before)
+  unfolding joined listed cellsS six
+  S-cells = S-row cellsS each
 
   -- and the host's number for task 2
   pub S-number : {r : ℕ} → Responds imageS 2 budget r → r ≡ paired 20 5
@@ -109,13 +124,38 @@ module _ {budget : ℕ} (enough : 6 ≤ budget) where
       (subst (λ (tab : Table). RespondsFrom tab 2 budget (paired 20 5)) (sym S-table)
       (RespondsFrom.told (each 2 (omega arith)))))
 
--- with a budget of 5 task 2 gets 23, 0
+-- with a budget of 5 task 2 is short of one evaluation
+cellsShort : ℕ → Cells
+cellsShort zero = cellsS 0
+cellsShort (suc zero) = cellsS 1
+cellsShort (suc (suc k)) = unbounded 23 5
+
+owed-short : {u a : ℕ} → IsTask S u a → OwedAt S (number S u a) 5 (cells (deadline S u a) (answer imposed S u a 5))
+owed-short {u} {a} is = record { u = u; a = a; isTask = is; numbered = refl; owed = owed S-kept is 5 }
+
+eachShort : (k : ℕ) → k < inAll S → OwedAt S k 5 (cellsShort k)
+unfolding computing cellsShort cellsS cells
+eachShort zero l = owed-short first-S
+eachShort (suc zero) l = owed-short second-S
+eachShort (suc (suc zero)) l = owed-short last-S
+eachShort (suc (suc (suc k))) l = absurd (omega arith)
+
+-- so its code is 23 in the listing
+pub S-cells-short :
+    {before after : List ℕ} {r : Filled}
+    → 18 ≤ length before
+    → Fills imageS 5 before after r
+    → (r ≡ filled.Done 3) × (after ≡ five ++ drop 18 before)
+unfolding joined listed cellsShort cellsS five
+S-cells-short = S-row cellsShort eachShort
+
+-- and its number is 23, 0
 pub S-short : {r : ℕ} → Responds imageS 2 5 r → r ≡ paired 23 0
-unfolding computing cells
+unfolding computing cellsShort
 S-short x = responds-unique x
     (Responds.accepted S-accepted
     (subst (λ (tab : Table). RespondsFrom tab 2 5 (paired 23 0)) (sym S-table)
-    (RespondsFrom.told (record { u = 1; a = 0; isTask = last-S; numbered = refl; owed = owed S-kept last-S 5 }))))
+    (RespondsFrom.told (eachShort 2 (omega arith)))))
 
 -- the empty image is refused with 1 at place 0, and leaves every cell
 pub empty-cells :

@@ -23,7 +23,6 @@ use Rattle.analysis.specs.Walk.{answer}
 use Rattle.analysis.proofs.Charges.{imposed-fair}
 use Rattle.analysis.proofs.Response.{bound-most}
 use Rattle.analysis.proofs.Answer.{answers, answers-unique}
-use Rattle.analysis.proofs.Budget.{greater-budget}
 use Rattle.runs.proofs.Demand.{answer-safe}
 use Rattle.told.specs.Cells.{cellsOfTask, listed, stored}
 use Rattle.told.specs.Told.{Owed, OwedAt, Written}
@@ -52,16 +51,6 @@ module _ {tab : Table} (keeps : Kept tab) {u a : ℕ} (isTask : IsTask tab u a) 
   owed-unique x y =
       x .is ∙ ap (cells (deadline tab u a)) (answers-unique keeps isTask (x .answers) (y .answers)) ∙ sym (y .is)
 
-  -- a greater budget changes only what had the code 23
-  owed-greater : {b d : ℕ} {c e : Cells} → b ≤ d → Owed tab u a b c → Owed tab u a d e → ¬ (c .code ≡ 23) → c ≡ e
-  unfolding cells
-  owed-greater {b} {d} l x y other =
-      let is = owed-unique x (owed b) in
-      let same : answer imposed tab u a d ≡ answer imposed tab u a b =
-      greater-budget imposed-fair keeps isTask l refl
-      (λ n e. other (ap (λ (c : Cells). c .code) (is ∙ ap (cells (deadline tab u a)) e))) in
-      is ∙ ap (cells (deadline tab u a)) (sym same) ∙ owed-unique (owed d) y
-
   -- a bound fits 32 bits
   pub owed-bound : {budget : ℕ} {c : Cells} → Owed tab u a budget c → c .bound < 2 ^ 32
   unfolding cells
@@ -84,9 +73,6 @@ module _ {tab : Table} (keeps : Kept tab) {k : ℕ} where
 
   pub owed-one : {budget : ℕ} {c d : Cells} → OwedAt tab k budget c → OwedAt tab k budget d → c ≡ d
   owed-one x y = owed-unique keeps (y .isTask) (owed-to x (y .isTask) (y .numbered)) (y .owed)
-
-  pub owed-more : {b d : ℕ} {c e : Cells} → b ≤ d → OwedAt tab k b c → OwedAt tab k d e → ¬ (c .code ≡ 23) → c ≡ e
-  owed-more l x y = owed-greater keeps (y .isTask) l (owed-to x (y .isTask) (y .numbered)) (y .owed)
 
 -- ---- cells that are written task by task
 

@@ -1,27 +1,27 @@
 -- Whether every task keeps its deadline, by the codes.
 use mathlib.Core.Bool.{Bool, true, false, cond, true≢false}
-use mathlib.Core.Path.{_≡_, refl, sym, ap, _∙_, subst}
+use mathlib.Core.Path.{_≡_, refl, sym, ap, _∙_}
 use mathlib.Core.List.{List}
 use Prim.Native.Nat.{ℕ, zero, suc, _*_, _≤_, _<_}
 use native.Mathlib.Decide.{decLt}
 use native.Mathlib.Omega.{arith}
-use borrow.Author.Tests.{le-leb, lt-leb, leb-true, eqb-true, eq-eqb, ne-eqb}
-use lib.Dec.{leb, eqb}
-use lib.ListN.{length, getD}
-use Rattle.told.specs.Cells.{cellsOfTask, hasRoom, isKept, areKept}
+use borrow.Author.Tests.{le-leb, lt-leb, eqb-true, eq-eqb, ne-eqb}
+use lib.Dec.{eqb}
+use lib.ListN.{length}
+use Rattle.told.specs.Cells.{cellsOfTask, codeIn, hasRoom, isKept, areKept}
 
 module _ (cells : List ℕ) where
-  pub kept-here : (k : ℕ) → cellsOfTask * suc k ≤ length cells → getD cells (cellsOfTask * k) 0 ≡ 0 → isKept cells k ≡ true
+  pub kept-here : (k : ℕ) → cellsOfTask * suc k ≤ length cells → codeIn cells k ≡ 0 → isKept cells k ≡ true
   unfolding isKept
-  kept-here k room zeroed = rw (le-leb (cellsOfTask * suc k) (length cells) room) (eq-eqb (getD cells (cellsOfTask * k) 0) 0 zeroed)
+  kept-here k room zeroed = rw (le-leb (cellsOfTask * suc k) (length cells) room) (eq-eqb (codeIn cells k) 0 zeroed)
 
   pub no-cells : (k : ℕ) → length cells < cellsOfTask * suc k → isKept cells k ≡ false
   unfolding isKept
   no-cells k short = rw (lt-leb (cellsOfTask * suc k) (length cells) short)
 
-  pub other-code : (k : ℕ) → cellsOfTask * suc k ≤ length cells → ¬ (getD cells (cellsOfTask * k) 0 ≡ 0) → isKept cells k ≡ false
+  pub other-code : (k : ℕ) → cellsOfTask * suc k ≤ length cells → ¬ (codeIn cells k ≡ 0) → isKept cells k ≡ false
   unfolding isKept
-  other-code k room other = rw (le-leb (cellsOfTask * suc k) (length cells) room) (ne-eqb (getD cells (cellsOfTask * k) 0) 0 other)
+  other-code k room other = rw (le-leb (cellsOfTask * suc k) (length cells) room) (ne-eqb (codeIn cells k) 0 other)
 
   -- one task more
   pub kept-next : (k : ℕ) → areKept cells k ≡ true → isKept cells k ≡ true → areKept cells (suc k) ≡ true
@@ -53,10 +53,10 @@ module _ (cells : List ℕ) where
       go true e = e
       go false e = absurd (true≢false (sym all ∙ not-kept k n l e))
 
-  pub kept-code : (k : ℕ) → isKept cells k ≡ true → getD cells (cellsOfTask * k) 0 ≡ 0
+  pub kept-code : (k : ℕ) → isKept cells k ≡ true → codeIn cells k ≡ 0
   unfolding isKept
   kept-code k = go (hasRoom (length cells) (suc k))
     where
-      go : (room : Bool) → cond room (eqb (getD cells (cellsOfTask * k) 0) 0) false ≡ true → getD cells (cellsOfTask * k) 0 ≡ 0
+      go : (room : Bool) → cond room (eqb (codeIn cells k) 0) false ≡ true → codeIn cells k ≡ 0
       go true e = eqb-true _ _ e
       go false e = absurd (true≢false (sym e))

@@ -19,6 +19,10 @@ listed c = c .code ∷ c .bound ∷ c .evaluations ∷ c .mode ∷ c .candidate 
 unfoldable pub cellsIn : List ℕ → ℕ → List ℕ
 cellsIn cells k = take cellsOfTask (drop (cellsOfTask * k) cells)
 
+-- and the first of them, its code
+abbrev pub codeIn : List ℕ → ℕ → ℕ
+codeIn cells k = getD cells (cellsOfTask * k) 0
+
 -- so many cells are enough for so many tasks
 abbrev pub hasRoom : (cells tasks : ℕ) → Bool
 hasRoom cells tasks = leb (cellsOfTask * tasks) cells
@@ -29,7 +33,7 @@ stored cells k c = cond (hasRoom (length cells) (suc k)) (sets cells (cellsOfTas
 
 -- task number k has its cells there, and its code is 0
 unfoldable pub isKept : List ℕ → ℕ → Bool
-isKept cells k = cond (hasRoom (length cells) (suc k)) (eqb (getD cells (cellsOfTask * k) 0) 0) false
+isKept cells k = cond (hasRoom (length cells) (suc k)) (eqb (codeIn cells k) 0) false
 
 -- and so has each of the first n tasks
 unfoldable pub areKept : List ℕ → (n : ℕ) → Bool
