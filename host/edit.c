@@ -10,8 +10,6 @@
 
 #include "sumpcandle.h"
 
-enum { BUDGET = 1000000 };
-
 /* One byte more than the longest image is enough to be refused as the whole file would be. */
 enum { ROOM = SUMPCANDLE_LONGEST + 1 };
 
@@ -19,7 +17,7 @@ enum { REFUSED = 2, TROUBLE = 3 };
 
 static void print_bounds(const uint8_t *image, size_t length, uint32_t tasks) {
     for (uint32_t task = 0; task < tasks; task++) {
-        uint64_t answer = sumpcandle_response(image, length, task, BUDGET);
+        uint64_t answer = sumpcandle_response(image, length, task, SUMPCANDLE_BUDGET);
         printf("%u %u\n", (unsigned)sumpcandle_number(answer), (unsigned)sumpcandle_value(answer));
     }
 }

@@ -6,8 +6,6 @@
 
 #include "sumpcandle.h"
 
-enum { BUDGET = 1000000 };
-
 /* One byte more than the longest image is enough to be refused as the whole file would be. */
 enum { ROOM = SUMPCANDLE_LONGEST + 1 };
 
@@ -30,7 +28,7 @@ int main(int count, char **arguments) {
     fclose(file);
 
     for (uint32_t task = 0;; task++) {
-        uint64_t answer = sumpcandle_response(image, length, task, BUDGET);
+        uint64_t answer = sumpcandle_response(image, length, task, SUMPCANDLE_BUDGET);
         uint32_t number = sumpcandle_number(answer);
         if (number == SUMPCANDLE_NO_TASK) {
             return 0;

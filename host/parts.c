@@ -2,7 +2,7 @@
    every transaction, sumpcandle_part, which walks anew each time, on the first two, the task's own and some that are not there.
 
    parts FILE...    prints a line for each sentence that does not hold of a task and a transaction, and how many bounds were tried;
-                    status 1 where one does not hold. The budget is enough for every bound of the samples. */
+                    status 1 where one does not hold. The budget is enough for every bound of the samples but the one that takes long. */
 
 #include <inttypes.h>
 #include <stdio.h>

@@ -9,8 +9,6 @@
 
 #include "sumpcandle.h"
 
-enum { BUDGET = 1000000 };
-
 /* One byte more than the longest image is enough to be refused as the whole file would be. */
 enum { ROOM = SUMPCANDLE_LONGEST + 1 };
 
@@ -49,7 +47,7 @@ int main(int count, char **arguments) {
     fclose(file);
 
     int64_t parts[SUMPCANDLE_PARTS_CELLS];
-    uint64_t answer = sumpcandle_parts(image, length, task, BUDGET, parts);
+    uint64_t answer = sumpcandle_parts(image, length, task, SUMPCANDLE_BUDGET, parts);
     if (sumpcandle_number(answer) != 0) {
         printf("refused %" PRIu32 " %" PRIu32 "\n", sumpcandle_number(answer), sumpcandle_value(answer));
         return 2;

@@ -26,7 +26,7 @@ extern "C" {
    0.
 
    `image` points to `length` bytes. The time of a call grows with the evaluations that it makes, at most `budget`, and with
-   what one of them costs. */
+   what one of them costs: a host that must not wait gives a smaller budget than SUMPCANDLE_BUDGET. */
 uint64_t sumpcandle_response(const uint8_t *image, size_t length, uint32_t task, uint32_t budget);
 
 /* The answers for every task, into cells: SUMPCANDLE_RESULT_CELLS for each task, in the order of their numbers, from task k's first at
@@ -107,6 +107,10 @@ uint64_t sumpcandle_write(const uint32_t *cells, uint8_t *buffer, size_t length)
 
 /* The longest image, in bytes. */
 #define SUMPCANDLE_LONGEST 5033
+
+/* The budget of the programs, the listing among them: a host that asks with it gets their answers. Any other is allowed. A greater
+   one alters no answer but SUMPCANDLE_BUDGET_SPENT: for what was that it may give another code, or the same after more evaluations. */
+#define SUMPCANDLE_BUDGET 100000000
 
 /* Bytes of stack to leave for a call, beside what a thread needs of its own. Not proved: bench/stack.c measured 44,552 over the
    samples, and the gate fails where it measures more than this. */

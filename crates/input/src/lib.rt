@@ -8,8 +8,8 @@ ghost use Rattle.input.specs.Input.{Within};
 // One byte more than the longest image, so that a longer input is seen to be too long.
 pub const BUFFER: usize = Reading::LONGEST + 1;
 
-// The programs' budget.
-pub const BUDGET: u32 = 1_000_000;
+// The programs' budget. The C header has it too, held to this one by tools/header.
+pub const BUDGET: u32 = 100_000_000;
 
 pub enum Input {
     // That many bytes stand in the buffer.
