@@ -26,8 +26,8 @@ impl Display for Cells {
     }
 }
 
-/// 'The program's budget is 1,000,000.'
-pub const PROGRAM_BUDGET: u32 = 1_000_000;
+/// '1,000,000 evaluations stop some honest long tables. The program shall use 100,000,000.'
+pub const PROGRAM_BUDGET: u32 = 100_000_000;
 
 /// 'No task of that number.'
 pub const NO_TASK: u32 = 13;

@@ -38,7 +38,7 @@ impl Arguments {
     }
 
     /// The number after `--name`, both of which are then gone.
-    pub fn number_if_given(&mut self, name: &str) -> Result<Option<u64>, String> {
+    pub fn number_if_given<N: FromStr>(&mut self, name: &str) -> Result<Option<N>, String> {
         let Some(at) = self.rest.iter().position(|word| word == name) else { return Ok(None) };
         self.rest.remove(at);
         parsed(name, (at < self.rest.len()).then(|| self.rest.remove(at))).map(Some)

@@ -51,9 +51,10 @@ const HELP: &str = "usage:
   second write --cases N --seed S [--batch K] --program COMMAND...
                                                compare COMMAND's lines with our own
   second simulate --runs N --seed S [--wide]   play legal runs of random small tables against the bounds
-  second simulate FILE [--runs N] [--seed S] [--wide]
+  second simulate FILE [--runs N] [--seed S] [--wide] [--budget B]
                                                play legal runs of the table in FILE (- is stdin): the longest
-                                               response of each task beside its bound
+                                               response of each task beside its bound, for which B evaluations may
+                                               be made instead of the program's budget
   second help                                  this text
 status: 0 all is well, 1 a difference or a violation, 2 a refused FILE, 3 trouble
 ";
@@ -153,11 +154,16 @@ fn run(command: &str, mut arguments: Arguments) -> Result<End, Trouble> {
         "simulate" => {
             let wide = arguments.flag("--wide");
             let (runs, seed) = (arguments.number_if_given("--runs")?, arguments.number_if_given("--seed")?);
+            let budget = arguments.number_if_given("--budget")?;
             let file = arguments.file();
             arguments.end()?;
-            match file {
-                Some(file) => simulate_table(&file, runs, seed.unwrap_or(1), wide),
-                None => simulate_small(needed("--runs", runs)?, needed("--seed", seed)?, wide),
+            match (file, budget) {
+                (Some(file), _) => {
+                    let budget = budget.unwrap_or(answer::PROGRAM_BUDGET);
+                    simulate_table(&file, budget, runs, seed.unwrap_or(1), wide)
+                }
+                (None, None) => simulate_small(needed("--runs", runs)?, needed("--seed", seed)?, wide),
+                (None, Some(_)) => Err(Trouble::Told("--budget goes with a FILE".into())),
             }
         }
         _ => Err(Trouble::Told(format!("there is no command {command}; second help lists them"))),
@@ -212,7 +218,7 @@ fn simulate_small(runs: u64, seed: u64, wide: bool) -> Result<End, Trouble> {
     ended(counts.told(seed))
 }
 
-fn simulate_table(file: &OsStr, runs: Option<u64>, seed: u64, wide: bool) -> Result<End, Trouble> {
+fn simulate_table(file: &OsStr, budget: u32, runs: Option<u64>, seed: u64, wide: bool) -> Result<End, Trouble> {
     use simulate::given::{analysed, extent, simulate, told, Settings};
     let image = if file == "-" {
         image_from_stdin()?
@@ -228,7 +234,7 @@ fn simulate_table(file: &OsStr, runs: Option<u64>, seed: u64, wide: bool) -> Res
     };
     let mut progress = Progress::on_terminal();
     let tasks = table.numbered().len() as u64;
-    let row = analysed(&table, answer::PROGRAM_BUDGET, &mut |done| progress.show("tasks analysed", done, tasks));
+    let row = analysed(&table, budget, &mut |done| progress.show("tasks analysed", done, tasks));
     let extent = extent(&table, &row);
     let runs = runs.unwrap_or(extent.runs);
     let settings = Settings { size: extent.size, runs, seed, wide };

@@ -50,6 +50,7 @@ fn what_cannot_be_carried_out_is_told_with_status_3() {
         (&["simulate", "/no/file"], "/no/file: "),
         (&["simulate", "/"], "/: "),
         (&["simulate", "--seed", "1"], "--runs is missing"),
+        (&["simulate", "--runs", "1", "--seed", "1", "--budget", "9"], "--budget goes with a FILE"),
         (&["simulate", "--narrow"], "what is --narrow?"),
     ];
     for (words, told) in cases {
@@ -228,6 +229,8 @@ fn runs_of_a_file_show_the_longest_response_beside_the_bound() {
     assert_eq!(other_order.stdout, played.stdout);
     let from_input = output_for(&["simulate", "-", "--runs", "20", "--seed", "3"], &image());
     assert_eq!(from_input.stdout, played.stdout);
+    let undecided = output(&["simulate", &file, "--runs", "20", "--seed", "3", "--budget", "2"]);
+    assert_eq!(text(&undecided.stdout).lines().nth(1), Some("   0   23        10      none         3"));
     let by_default = output(&["simulate", &file, "--wide"]);
     assert_eq!(by_default.status.code(), Some(0));
     assert!(text(&by_default.stdout).contains("\nseed 1\nruns 10000\n"));

@@ -1,8 +1,8 @@
 //! The samples and the stored cases: what they list, and that their first three cells are those of document 01, as they were
-//! before document 02's second request gave a task three more, its fourth raised the limits, and its fifth the deadlines that
-//! nobody could keep.
+//! before document 02's second request gave a task three more, its fourth raised the limits, its fifth the deadlines that
+//! nobody could keep, and its sixth the program's budget.
 
-use std::fs::{read_dir, read_to_string, File};
+use std::fs::{read, read_dir, read_to_string, write, File};
 use std::path::{Path, PathBuf};
 use std::process::{Command, Stdio};
 
@@ -29,12 +29,62 @@ fn digest(text: &str) -> u64 {
     text.bytes().fold(0xCBF2_9CE4_8422_2325, |hash, byte| (hash ^ byte as u64).wrapping_mul(0x100_0000_01B3))
 }
 
+fn image(name: &str) -> PathBuf {
+    top().join(format!("samples/{name}.table"))
+}
+
+fn expected(name: &str) -> String {
+    read_to_string(top().join(format!("samples/{name}.expected"))).unwrap()
+}
+
 #[test]
 fn every_sample_lists_as_expected() {
     for name in samples() {
-        let file = |end: &str| top().join(format!("samples/{name}.{end}"));
-        assert_eq!(printed("list", &file("table")), read_to_string(file("expected")).unwrap(), "{name}");
+        assert_eq!(printed("list", &image(&name)), expected(&name), "{name}");
     }
+}
+
+/// The lines of every sample under a budget, task by task, as they stand behind the task's number in its listing; none of a
+/// refused image.
+fn lines_under(budget: u32) -> Vec<Vec<String>> {
+    let mut stream = Vec::new();
+    for name in samples() {
+        let image = read(image(&name)).unwrap();
+        stream.extend([&budget.to_be_bytes()[..], &(image.len() as u16).to_be_bytes(), &image].concat());
+    }
+    let file = Path::new(env!("CARGO_TARGET_TMPDIR")).join("samples.stream");
+    write(&file, stream).unwrap();
+    let tasks = |line: &str| -> Vec<String> {
+        let cells: Vec<&str> = line.strip_prefix("accepted ").map_or(Vec::new(), |cells| cells.split(' ').collect());
+        cells.chunks(6).map(|task| task.join(" ")).collect()
+    };
+    printed("answer", &file).lines().map(tasks).collect()
+}
+
+/// 'A greater budget must never alter a task's line unless that line was 23', beside the budget of before the sixth request.
+#[test]
+fn only_what_was_23_lists_otherwise_than_under_the_former_budget() {
+    let mut altered = Vec::new();
+    let former = lines_under(1_000_000);
+    assert_eq!(former.len(), samples().len());
+    for (name, former) in samples().iter().zip(former) {
+        let listing = expected(name);
+        let lines: Vec<&str> = listing.lines().skip(1).collect();
+        assert_eq!(lines.len(), former.len(), "{name}");
+        for (task, (line, former)) in lines.iter().zip(former).enumerate() {
+            if **line != format!("{task} {former}") {
+                assert_eq!(former, "23 0 1000000 0 0 0", "{name}, task {task}");
+                altered.push(format!("{name}: {line}"));
+            }
+        }
+    }
+    let expected = [
+        "backlog: 1 0 12168 1481487 0 1 23",
+        "not-decided: 0 23 0 100000000 0 0 0",
+        "past-horizon: 0 22 0 1677722 0 0 0",
+        "past-horizon-together: 1 22 0 1677722 0 0 0",
+    ];
+    assert_eq!(altered, expected);
 }
 
 #[test]
@@ -50,6 +100,8 @@ const FOURTH: [&str; 5] = ["cockpit", "longest", "most-tasks", "most-transaction
 /// And those that came with the fifth.
 const FIFTH: [&str; 4] =
     ["just-enough", "refused-14-below-offset", "refused-14-longest-mode", "refused-14-one-tick-short"];
+/// And those that came with the sixth, or had 23 before it.
+const SIXTH: [&str; 4] = ["backlog", "not-decided", "past-horizon", "past-horizon-together"];
 
 /// Cases that were stored before the fourth request, and how many tasks a table had at most.
 const STORED: usize = 3000;
@@ -61,14 +113,14 @@ const TASKS: usize = 64;
 #[test]
 fn the_first_three_cells_are_what_they_were() {
     let mut listings = String::new();
-    let is_new = |name: &&String| [&SECOND[..], &FOURTH, &FIFTH].concat().contains(&name.as_str());
+    let is_new = |name: &&String| [&SECOND[..], &FOURTH, &FIFTH, &SIXTH].concat().contains(&name.as_str());
     for name in samples().iter().filter(|name| !is_new(name)) {
-        for line in read_to_string(top().join(format!("samples/{name}.expected"))).unwrap().lines() {
+        for line in expected(name).lines() {
             listings += &line.split(' ').take(4).collect::<Vec<_>>().join(" ");
             listings.push('\n');
         }
     }
-    assert_eq!(digest(&listings), 0x4216_E878_3AC8_B78D);
+    assert_eq!(digest(&listings), 0xF95F_712A_9039_7CA8);
 
     let (mut lines, mut late) = (String::new(), 0);
     for line in printed("answer", &top().join("crates/many/stdin")).lines().take(STORED) {

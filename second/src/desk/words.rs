@@ -1,7 +1,7 @@
 //! The words of `explain` for an accepted image: a line for each task, under it what its bound is made of, and a last line
 //! for the table.
 
-use crate::answer::Cells;
+use crate::answer::{Cells, PROGRAM_BUDGET};
 use crate::interference::Greatest;
 use crate::parts::{Charge, Parts};
 use crate::table::{Table, Task};
@@ -47,7 +47,7 @@ impl Judged<'_> {
             20 => format!("not shown to be in time, {} above", number(self.above())),
             21 => "no bound: it and the tasks that can delay it may want more than the major frame holds".into(),
             22 => "no bound: no busy time up to the horizon of 16,777,215 ticks was found to end".into(),
-            23 => "not decided: 1,000,000 evaluations were not enough".into(),
+            23 => format!("not decided: {} evaluations were not enough", number(PROGRAM_BUDGET as i64)),
             code => format!("a code that is not known here: {code}"),
         }
     }

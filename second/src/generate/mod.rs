@@ -5,10 +5,10 @@ pub mod deadline;
 pub mod tables;
 pub mod who;
 
-use crate::answer::{all_cells, Cells};
+use crate::answer::{all_cells, cells, Cells, PROGRAM_BUDGET};
 use crate::draft;
 use crate::image::read;
-use crate::interference::Charging;
+use crate::interference::{Charging, Fixed};
 use crate::random::Random;
 use crate::stream::{Asked, Question};
 use crate::table::{Table, Transaction};
@@ -99,7 +99,9 @@ fn budget(random: &mut Random, table: &Table) -> u32 {
         }
         25..=60 => around(random, needed),
         61..=90 => random.within(needed as i64, 2 * needed as i64) as u32,
-        _ if row.iter().all(|cells| has_ended(&cells)) => random.pick(&[u32::MAX, u32::MAX - 1, 1 << 31, 1_000_000]),
+        _ if row.iter().all(|cells| has_ended(&cells)) => {
+            random.pick(&[u32::MAX, u32::MAX - 1, 1 << 31, PROGRAM_BUDGET])
+        }
         _ => most,
     }
 }
@@ -108,17 +110,19 @@ fn around(random: &mut Random, needed: u32) -> u32 {
     (needed + random.below(3) as u32).saturating_sub(1)
 }
 
-/// About this many charges are worked out at most to see which tasks of a table come to an end soon.
-const CHARGES_IN_LOOK: usize = 1_000_000;
-/// But each task may take so many evaluations, or the largest tables would all be left out.
-const EVALUATIONS_IN_LOOK: usize = 1000;
-/// And this many of each evaluation at most for the others, which may spend the program's budget: some tenths of a second.
-const CHARGES_OF_OTHERS: usize = 20;
+/// About this many charges are worked out at most for a table that does not take long: some tenths of a second.
+const CHARGES_IN_TABLE: usize = 20_000_000;
+/// But so many evaluations for each task are few, or the largest tables would all be left out.
+const EVALUATIONS_IN_TABLE: usize = 1000;
 
-/// Whether a table takes long under the program's budget, if its tasks that come to no end soon spend all of it.
+/// Whether a table takes long under the program's budget: its tasks have not all come to an end after so many charges. The
+/// budget itself is far too much to spend on a table that is one of many.
 pub fn is_dear(table: &Table) -> bool {
-    let charges = charges_in_evaluation(table);
-    let few = (CHARGES_IN_LOOK / (charges * table.numbered().len())).max(EVALUATIONS_IN_LOOK);
-    let row = all_cells(table, Charging::Imposed, few as u32);
-    charges * row.iter().filter(|cells| cells.code == 23).count() > CHARGES_OF_OTHERS
+    let numbered = table.numbered();
+    let mut left = (CHARGES_IN_TABLE / charges_in_evaluation(table)).max(EVALUATIONS_IN_TABLE * numbered.len()) as u32;
+    numbered.into_iter().any(|(u, a)| {
+        let Cells { code, evaluations, .. } = cells(&Fixed { table, u, a }, Charging::Imposed, left);
+        left -= evaluations;
+        code == 23
+    })
 }

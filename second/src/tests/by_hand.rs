@@ -1,7 +1,7 @@
 //! Every line of 'Checked by hand', and of 'Errors the spreadsheet taught us'.
 
 use super::*;
-use crate::answer::{answer, host, line, listing};
+use crate::answer::{answer, host, line, listing, PROGRAM_BUDGET};
 use crate::draft;
 use crate::interference::{held, later, modulo, phase};
 
@@ -62,7 +62,7 @@ fn sample_s() {
     let image = draft::image(&s());
     let expected = "task code bound evaluations mode candidate job\n0 0 2 3 0 0 0\n1 0 7 5 0 1 0\n2 20 5 6 0 2 0\n";
     assert_eq!(listing(&image, Charging::Imposed), expected);
-    assert_eq!(line(&answer(&image, 1_000_000)), "accepted 0 2 3 0 0 0 0 7 5 0 1 0 20 5 6 0 2 0\n");
+    assert_eq!(line(&answer(&image, PROGRAM_BUDGET)), "accepted 0 2 3 0 0 0 0 7 5 0 1 0 20 5 6 0 2 0\n");
 }
 
 #[test]
@@ -102,10 +102,10 @@ fn the_image_in_hexadecimal() {
 #[test]
 fn what_the_host_gets() {
     let image = draft::image(&s());
-    assert_eq!(host(&image, 1, 1_000_000), 7);
-    assert_eq!(host(&image, 2, 1_000_000), (20 << 32) + 5);
+    assert_eq!(host(&image, 1, PLENTY), 7);
+    assert_eq!(host(&image, 2, PLENTY), (20 << 32) + 5);
     assert_eq!(host(&image, 2, 5), 23 << 32);
-    assert_eq!(host(&image, 3, 1_000_000), 13 << 32);
+    assert_eq!(host(&image, 3, PLENTY), 13 << 32);
     assert_eq!(host(&image, u32::MAX, 0), 13 << 32);
     assert_eq!(host(&[], 99, 0), 1 << 32);
     assert_eq!(host(&image[..4], 0, 9), (1 << 32) + 28);

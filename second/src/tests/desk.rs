@@ -1,6 +1,7 @@
 //! What the technician reads: the words of a task, of a table and of a refusal, and the table as text.
 
 use super::*;
+use crate::answer::cells_and_parts;
 use crate::desk::place::{field_at, value_of, Name};
 use crate::desk::words::{number, words, Asked};
 use crate::desk::Text;
@@ -110,12 +111,15 @@ fn each_code_has_its_words() {
 the major frame holds
    3     0         10        2          -      1,000  no bound: no busy time up to the horizon of 16,777,215 ticks was \
 found to end
-   4     0         10        1          - 67,108,863  not decided: 1,000,000 evaluations were not enough
+   4     0         10        1          - 67,108,863  not decided: 100,000,000 evaluations were not enough
 5 tasks: 1 in time, 4 not shown to be (worst task 2, no bound); least to spare 8 (task 0)
 ";
     let in_time = "   0     0         10        5          2         10  in time, 8 to spare\n";
-    assert_eq!(told(Text::Words, &image(&all_codes()), &[]), [HEADER, in_time, open].concat());
-    assert_eq!(told(Text::Words, &image(&all_codes()), &["open"]), [HEADER, open].concat());
+    // The last task spends a thousand evaluations as it would a hundred million.
+    let (row, parts) = cells_and_parts(&all_codes(), 1000);
+    let told_when = |only_open: bool| words(&all_codes(), &row, &parts, Asked { only_open, all: false });
+    assert_eq!(told_when(false), [HEADER, in_time, open].concat());
+    assert_eq!(told_when(true), [HEADER, open].concat());
     let text =
         "frame 10\ntrans 10 5\ntask 0 0 0 10 5 2 0 0 0 0\ntask 0 0 1 5 4 0 5 0 0 0\ntask 0 0 0 1000 3 0 0 11 0 0\n\
                 task 0 0 16777215 1000 2 0 0 0 10 0\ntask 0 0 1 67108863 1 0 0 0 0 10\n";
@@ -321,10 +325,13 @@ fn each_generated_refusal_is_at_the_start_of_its_field() {
     assert_eq!(kinds.len(), 12, "{kinds:?}");
 }
 
-/// Those that are left out of a comparison are few, and some that spend the budget are left in.
+/// Those that are left out of a comparison are few, and some that take millions of evaluations are left in.
 #[test]
 fn few_images_are_dear() {
     assert!(!is_dear(&all_codes()) && !is_dear(&s()));
+    // One evaluation for each of 16,777,214 jobs.
+    let many_jobs = Task { jitter: Table::HORIZON - 1, ..task(0, &[1, 1], 1) };
+    assert!(is_dear(&Table { frame: 2, transactions: vec![transaction(2, vec![many_jobs])] }));
     let tables: Vec<Table> = (0..300).filter_map(|index| read(&generate::image(1, index)).ok()).collect();
     let dear = tables.iter().filter(|table| is_dear(table)).count();
     assert!(dear > 0 && 10 * dear < tables.len(), "{dear}");

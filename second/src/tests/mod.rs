@@ -1,5 +1,6 @@
 //! What the document and the papers give as figures, and what they leave to be checked on many tables.
 
+mod budget;
 mod by_hand;
 mod desk;
 mod given;

@@ -29,7 +29,7 @@ fn the_parts_of_s() {
                     parts 0 2 0 0 0 2 0\npart 0 0 own\npart 0 1 none\n\
                     parts 1 3 0 4 0 3 0\npart 1 0 own\npart 1 1 none\n\
                     parts 2 5 0 0 0 2 0\npart 2 0 3 0 0\npart 2 1 own\n";
-    assert_eq!(told(&s(), Question::Parts { budget: 1_000_000 }), expected);
+    assert_eq!(told(&s(), Question::Parts { budget: PLENTY }), expected);
     let spent = "accepted 23 0 2 0 0 0 23 0 2 0 0 0 23 0 2 0 0 0\nparts 0 none\nparts 1 none\nparts 2 none\n";
     assert_eq!(told(&s(), Question::Parts { budget: 2 }), spent);
     let cut = Asked { question: Question::Parts { budget: 9 }, image: draft::image(&s())[..4].to_vec() };
