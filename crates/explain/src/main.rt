@@ -281,7 +281,8 @@ fn task(whole: bool, words: Words, image: &[u8], table: &[u32], k: usize, line: 
     let red = words.colour & !kept;
     let whole = columns(output::begin_line(whole, red), table, k, line);
     let whole = output::end_line(meaning(whole, line), red);
-    let asked = words.all | !kept;
+    // a bound is at least 1, and without one there is nothing to ask: that would only walk again
+    let asked = (words.all | !kept) & (0 < line.bound);
     if asked {
         return made(whole, image, table, k, line);
     }
