@@ -109,7 +109,8 @@ uint64_t sumpcandle_write(const uint32_t *cells, uint8_t *buffer, size_t length)
 #define SUMPCANDLE_LONGEST 5033
 
 /* The budget of the programs, the listing among them: a host that asks with it gets their answers. Any other is allowed. A greater
-   one alters no answer but SUMPCANDLE_BUDGET_SPENT: for what was that it may give another code, or the same after more evaluations. */
+   one alters no answer of sumpcandle_response and no task's cells of sumpcandle_cells unless the code was SUMPCANDLE_BUDGET_SPENT: then
+   there may be another code, or the same after more evaluations. What sumpcandle_parts and sumpcandle_part have given stays. */
 #define SUMPCANDLE_BUDGET 100000000
 
 /* Bytes of stack to leave for a call, beside what a thread needs of its own. Not proved: bench/stack.c measured 44,552 over the
