@@ -46,7 +46,7 @@ module _ (f : ℕ → ℕ) {Over : ℕ → Type 0} (over? : (v : ℕ) → Dec (O
       go (no g) (yes q) = refl
       go (no g) (no q) = absurd (q o)
 
-  step-on : (t left : ℕ) → ¬ (f t ≡ t) → ¬ (Over (f t)) → chain f over? (suc left) t ≡ chain f over? left (f t)
+  pub step-on : (t left : ℕ) → ¬ (f t ≡ t) → ¬ (Over (f t)) → chain f over? (suc left) t ≡ chain f over? left (f t)
   unfolding chain
   step-on t left h o = go (ℕ-discrete (f t) t) (over? (f t))
     where

@@ -7,7 +7,7 @@ use native.Mathlib.Omega.{arith}
 use Rattle.analysis.specs.Chain.{came, over, back, past}
 use Rattle.analysis.specs.Walk as walk
 use Rattle.analysis.specs.Walk.{ended, chain}
-use Rattle.analysis.proofs.Chain.{chain-enough}
+use Rattle.analysis.proofs.Chain.{step-on, chain-enough}
 use Rattle.answers.specs.declared.chains.Stop.{Stop}
 use Rattle.answers.specs.declared.chains.Stop.the-variants.{Came, Over, Short}
 use Rattle.answers.specs.Turn.{stopped}
@@ -32,15 +32,6 @@ module _ (f : ℕ → ℕ) {Passed : ℕ → Type 0} (over? : (v : ℕ) → Dec 
   pub left-all : {budget used : ℕ} (x : ℕ) → used ≤ budget → Left budget used x used x
   left-all x h = record { within = h; same = refl }
 
-  step-on : (left t : ℕ) → ¬ (f t ≡ t) → ¬ (Passed (f t)) → chain f over? (suc left) t ≡ chain f over? left (f t)
-  unfolding chain
-  step-on left t n o = go (ℕ-discrete (f t) t) (over? (f t))
-    where
-      go : (d : Dec (f t ≡ t)) (p : Dec (Passed (f t))) → elim d [ yes e ↦ ended (came t) left | no g ↦ elim p [ yes q ↦ ended over left | no q ↦ chain f over? left (f t) ] ] ≡ chain f over? left (f t)
-      go (yes e) p = absurd (n e)
-      go (no g) (yes q) = absurd (o q)
-      go (no g) (no q) = refl
-
   module _ {budget used x made t : ℕ} (left : Left budget used x made t) where
     pub left-came : made < budget → f t ≡ t → Came (record { 0 = t }) (made + 1) ≡ stopped budget (chain f over? (budget - used) x)
     unfolding stopped
@@ -54,10 +45,11 @@ module _ (f : ℕ → ℕ) {Passed : ℕ → Type 0} (over? : (v : ℕ) → Dec 
         let s : chain f over? (budget - used) x ≡ ended over (budget - made - 1) = sym (left .same) ∙ chain-enough f over? (past n o) (budget - made) (omega arith) in
         rw s (ap Over (omega arith))
 
-    pub left-on : made < budget → ¬ (f t ≡ t) → ¬ (Passed (f t)) → Left budget used x (made + 1) (f t)
-    left-on l n o =
+    pub left-on : {v : ℕ} → v ≡ f t → made < budget → ¬ (v ≡ t) → ¬ (Passed v) → Left budget used x (made + 1) v
+    left-on {v} value l n o =
         let more : budget - made ≡ suc (budget - (made + 1)) = omega arith in
-        record { within = omega arith; same = sym (step-on (budget - (made + 1)) t n o) ∙ ap (λ (k : ℕ). chain f over? k t) (sym more) ∙ left .same }
+        let step : chain f over? (suc (budget - (made + 1))) t ≡ chain f over? (budget - (made + 1)) v = rw value (step-on f over? t (budget - (made + 1)) (rw (← value) n) (rw (← value) o)) in
+        record { within = omega arith; same = sym step ∙ ap (λ (k : ℕ). chain f over? k t) (sym more) ∙ left .same }
 
     pub left-none : budget ≤ made → Short ≡ stopped budget (chain f over? (budget - used) x)
     unfolding stopped chain

@@ -5,6 +5,7 @@ pub mod Flags
 pub mod Signed
 pub mod Chain
 pub mod Instants
+pub mod Cycles
 pub mod Walks
 pub mod Filling
 pub mod Weighing

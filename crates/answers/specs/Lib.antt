@@ -1,5 +1,6 @@
 pub mod Lent
 pub mod Turn
+pub mod Ahead
 pub mod Work
 pub mod Parts
 pub mod Split

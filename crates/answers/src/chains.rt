@@ -1,5 +1,6 @@
 // The chains of one turn of the walk: the busy length, and the completion of a job. Each evaluation puts the present t
 // in; the budget is looked at before it, the horizon after it.
+use super::ahead;
 use super::charges;
 use super::charges::Subject;
 use super::layout::Work;
@@ -127,7 +128,7 @@ pub(crate) fn demand(
 }
 
 // The demand by t of all jobs up to t, charged at their release.
-fn busy(work: &[u32; Work::CELLS], s: Subject, x: Instant, t: Ticks) -> Ticks
+pub(crate) fn busy(work: &[u32; Work::CELLS], s: Subject, x: Instant, t: Ticks) -> Ticks
     requires { ⌜ Lent (now work) ⌝ }
     requires { ⌜ IsSubject (now work) s ⌝ }
     requires { ⌜ IsInstant (tableOf (now work)) (s .u) (s .a) (x .mode) (x .candidate) x ⌝ }
@@ -140,7 +141,8 @@ fn busy(work: &[u32; Work::CELLS], s: Subject, x: Instant, t: Ticks) -> Ticks
     demand(work, s, x, true, last_job(period, phase, t), t)
 }
 
-// The chain for L: it starts at 1, and ends where t comes back or the value exceeds the horizon.
+// The chain for L: it starts at 1, and ends where t comes back or the value exceeds the horizon. Cycles of it that come again
+// are counted and not walked.
 pub(crate) fn busy_chain(
     work: &[u32; Work::CELLS],
     s: Subject,
@@ -155,8 +157,10 @@ pub(crate) fn busy_chain(
     ensures { λ r. ⌜ r ≡ stopped budget (chain (busy (tableOf (now (work .entry))) (s .u) (s .a) (x .mode) (x .candidate)) beyond? (budget - used) 1) ⌝ }
 {
     let horizon = reads::wide(Table::horizon());
+    let frame = reads::frame(work);
     let mut made = used;
     let mut t = Ticks(1);
+    let mut mark = Ticks(1);
     while made < budget {
         let value = busy(work, s, x, t);
         made += 1;
@@ -166,7 +170,10 @@ pub(crate) fn busy_chain(
         if horizon < value.0 {
             return Stop::Over(made);
         }
-        t = value;
+        let next = ahead::go_on(work, s, x, frame, mark, value, budget - made);
+        made += next.evaluations;
+        t = next.t;
+        mark = next.mark;
     }
     Stop::Short
 }

@@ -15,6 +15,7 @@ ghost use Rattle.answers.specs.Work.{workCells};
 ghost use Rattle.parts.specs.Parts.{Makes, ChargesOne};
 ghost use Rattle.told.specs.Told.{Fills, FillsFrom, Responds, RespondsFrom};
 
+mod ahead;
 mod answers;
 mod chains;
 mod charges;

@@ -89,7 +89,7 @@ fn share(work: &[u32; Work::CELLS], s: Subject, i: usize) -> u64
     reads::frame(work) / reads::period(work, i) * most_load(work, s, i)
 }
 
-fn frame_demand(work: &[u32; Work::CELLS], s: Subject) -> u64
+pub(crate) fn frame_demand(work: &[u32; Work::CELLS], s: Subject) -> u64
     requires { ⌜ Lent (now work) ⌝ }
     requires { ⌜ IsSubject (now work) s ⌝ }
     ensures { λ r. ⌜ r ≡ frameDemand (tableOf (now (work .entry))) (s .u) (s .a) ⌝ }

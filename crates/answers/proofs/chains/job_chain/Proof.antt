@@ -57,7 +57,7 @@ loop-again c =
     let (lent, (subject, (turn, (near, (reaches, within))))) = l .before .before .pre in
     let inv = l .loop .inv in
     let value = b .demand .ensures in (
-      rw value (left-on _ never? (inv .0) (b .before .loop-test .taken) (λ e. c .if1 .left (value ∙ e)) (λ o. o)),
+      left-on _ never? (inv .0) value (b .before .loop-test .taken) (c .if1 .left) (λ o. o),
       λ r. rw value (reaches-on (lent .table .kept) (subject .chosen .isTask) r (l .loop .t .0) (inv .1 r)),
     )
 

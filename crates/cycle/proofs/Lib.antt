@@ -1,0 +1,4 @@
+pub mod Steady
+pub mod Bends
+pub mod Rises
+pub mod Fit
