@@ -1,1 +1,2 @@
 pub mod Promised
+pub mod Unmarked

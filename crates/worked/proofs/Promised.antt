@@ -22,7 +22,7 @@ use Rattle.analysis.proofs.Answer.{answers}
 use Rattle.worked.specs.Promised.{Case, Promised, Each, first, cases}
 
 -- a table is kept where its image is accepted and says it
-keeps : (tab : Table) → imageFault (imageOf tab) ≡ Accepted → tableIn (imageOf tab) ≡ tab → Kept tab
+pub keeps : (tab : Table) → imageFault (imageOf tab) ≡ Accepted → tableIn (imageOf tab) ≡ tab → Kept tab
 keeps tab ok same = subst Kept same (kept (imageOf tab) ok)
 
 promised :

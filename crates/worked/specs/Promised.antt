@@ -1,11 +1,11 @@
--- The starred cases of whole tasks once more, as what we promise of a task: `Answers`, which speaks of least busy lengths, least
+-- The starred cases of whole tasks once more, and one that is too long to be computed, as what we promise of a task: `Answers`, which speaks of least busy lengths, least
 -- completions and needed evaluations, and not of the function that computes them.
 use mathlib.Core.List.{List, [], _∷_}
 use Prim.Native.Nat.{ℕ}
 use Rattle.table.specs.Table.{Table, IsTask}
 use Rattle.table.specs.Kept.{Kept}
-use Rattle.table.specs.Sample.{S, lone, plain}
-use Rattle.analysis.specs.Answer.{Answer, bound, overload, spent, Answers}
+use Rattle.table.specs.Sample.{S, lone, plain, task}
+use Rattle.analysis.specs.Answer.{Answer, bound, overload, beyond, spent, Answers}
 use Rattle.analysis.specs.Cases.{by}
 use Rattle.worked.specs.Starred.{delayed, lowerOf}
 
@@ -47,3 +47,7 @@ cases =
     ∷ record { tab = S; u = 1; a = 0; budget = 5; says = spent 5 }
     ∷ record { tab = S; u = 1; a = 0; budget = 6; says = bound 5 6 (by 0 2 0) }
     ∷ []
+
+-- Unmarked in document 01. One task, frame and T 10, C 10, B 1: 22 after 1,677,722 evaluations, given a budget of at least that
+abbrev pub unmarked : (budget : ℕ) → Case
+unmarked budget = record { tab = lone 10 (task 0 0 1 10 0 (10 ∷ [])); u = 0; a = 0; budget = budget; says = beyond 1_677_722 }
