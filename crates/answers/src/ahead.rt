@@ -96,7 +96,8 @@ fn after_frames(
 {
     let far = Ticks(t.0 - mark.0);
     let room = reads::wide(Table::horizon()) - t.0;
-    if room < far.0 {
+    // to see a cycle costs two evaluations for each of its own: it pays where three more have room
+    if room < 3 * far.0 {
         return Ahead {
             t,
             evaluations: 0,

@@ -19,6 +19,9 @@ wide-requires c κs = tt
 sub-room-2 : tie.Need-sub-room-2
 sub-room-2 c = omega arith
 
+mul-if1 : tie.Need-mul-if1
+mul-if1 c = omega arith
+
 returns : tie.Need-returns
 returns c =
     let (lent, (subject, (turn, (mark, (met, frames))))) = c .before .before .before .before .before .before .before .pre in
@@ -75,6 +78,7 @@ after-frames-spec =
     horizon-requires
     wide-requires
     sub-room-2
+    mul-if1
     returns
     frame-demand-requires
     frame-requires
