@@ -9,6 +9,7 @@ use std::collections::BTreeMap;
 use std::ffi::OsString;
 use std::fmt::{self, Display};
 use std::io::{self, Write};
+use std::marker::PhantomData;
 use std::process::{Command, Output, Stdio};
 
 pub struct Plan {
@@ -100,15 +101,40 @@ impl Compared for Counts {
     }
 }
 
-/// The same over cases of all kinds.
-#[derive(Default)]
-pub struct Who(Counts);
+/// Where other cases come from than those for cells.
+pub trait Source: Default {
+    fn asked(seed: u64, index: u64) -> Asked;
+}
 
-impl Compared for Who {
+/// Cases of all kinds.
+#[derive(Default)]
+pub struct Who;
+
+impl Source for Who {
+    fn asked(seed: u64, index: u64) -> Asked {
+        generate::who::asked(seed, index)
+    }
+}
+
+/// Cases at full load.
+#[derive(Default)]
+pub struct Full;
+
+impl Source for Full {
+    fn asked(seed: u64, index: u64) -> Asked {
+        generate::full::case(seed, index).asked()
+    }
+}
+
+/// The same over the cases of that source.
+#[derive(Default)]
+pub struct Over<S>(Counts, PhantomData<S>);
+
+impl<S: Source> Compared for Over<S> {
     type Case = Asked;
 
     fn case(seed: u64, index: u64) -> Asked {
-        generate::who::asked(seed, index)
+        S::asked(seed, index)
     }
 
     fn encoded(case: &Asked) -> Vec<u8> {
@@ -124,7 +150,7 @@ impl Compared for Who {
     }
 }
 
-impl Display for Who {
+impl<S> Display for Over<S> {
     fn fmt(&self, out: &mut fmt::Formatter) -> fmt::Result {
         self.0.fmt(out)
     }

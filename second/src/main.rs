@@ -21,6 +21,7 @@ mod tests;
 mod write;
 
 use arguments::{needed, Arguments};
+use compare::{Counts, Full, Over, Who};
 use interference::Charging;
 use progress::Progress;
 use std::ffi::{OsStr, OsString};
@@ -35,9 +36,10 @@ const HELP: &str = "usage:
   second whole                                 the same with the whole-job bound
   second host TASK BUDGET                      one image on stdin: the host's 64-bit number
   second answer                                a stream of cases on stdin: the lines of each
-  second generate --cases N --seed S [--who]   a stream of cases on stdout, all of them for cells; with --who also for the
-                                               parts of bounds and for greatest charges
-  second compare --cases N --seed S [--who] [--batch K] --program COMMAND...
+  second generate --cases N --seed S [--who | --full]
+                                               a stream of cases on stdout, all of them for cells; with --who also for the
+                                               parts of bounds and for greatest charges, with --full at full load
+  second compare --cases N --seed S [--who | --full] [--batch K] --program COMMAND...
                                                compare COMMAND's lines with our own
   second words [--open] [--all]                one image on stdin: what explain says of it, with --open only of the
                                                tasks that are not shown to be in time, with --all what every bound
@@ -129,22 +131,17 @@ fn run(command: &str, mut arguments: Arguments) -> Result<End, Trouble> {
             arguments.end()?;
             answer_stream()
         }
-        "generate" => {
-            let (cases, seed) = (arguments.number("--cases")?, arguments.number("--seed")?);
-            let with_who = arguments.flag("--who");
-            arguments.end()?;
-            if with_who {
-                generate_stream::<compare::Who>(cases, seed)
-            } else {
-                generate_stream::<compare::Counts>(cases, seed)
-            }
-        }
+        "generate" if arguments.flag("--who") => generate_stream::<Over<Who>>(arguments),
+        "generate" if arguments.flag("--full") => generate_stream::<Over<Full>>(arguments),
+        "generate" => generate_stream::<Counts>(arguments),
         "compare" => {
             let program = arguments.program()?;
             if arguments.flag("--who") {
-                stream_compared::<compare::Who>(program, arguments)
+                stream_compared::<Over<Who>>(program, arguments)
+            } else if arguments.flag("--full") {
+                stream_compared::<Over<Full>>(program, arguments)
             } else {
-                stream_compared::<compare::Counts>(program, arguments)
+                stream_compared::<Counts>(program, arguments)
             }
         }
         "write" if arguments.rest.is_empty() => write_stream(),
@@ -288,7 +285,9 @@ fn write_stream() -> Result<End, Trouble> {
     stream_answered(|input| write::stream::next(input), |case| write::stream::answered(case).1)
 }
 
-fn generate_stream<C: compare::Compared>(cases: u64, seed: u64) -> Result<End, Trouble> {
+fn generate_stream<C: compare::Compared>(mut arguments: Arguments) -> Result<End, Trouble> {
+    let (cases, seed) = (arguments.number("--cases")?, arguments.number("--seed")?);
+    arguments.end()?;
     let mut output = BufWriter::new(io::stdout().lock());
     for index in 0..cases {
         output.write_all(&C::encoded(&C::case(seed, index))).map_err(with("standard output"))?;

@@ -37,6 +37,7 @@ fn what_cannot_be_carried_out_is_told_with_status_3() {
         (&["host", "0"], "BUDGET needs a number"),
         (&["generate", "--cases", "1"], "--seed is missing"),
         (&["generate", "--cases", "many", "--seed", "1"], "--cases needs a number"),
+        (&["generate", "--cases", "1", "--seed", "1", "--who", "--full"], "what is --full?"),
         (&["compare", "--cases", "1", "--seed", "1"], "--program is missing"),
         (&["compare", "--cases", "1", "--seed", "1", "--program", "/no/program"], "/no/program: "),
         (&["write", "--cases", "1", "--seed", "1"], "--program is missing"),
@@ -110,6 +111,21 @@ fn a_program_that_answers_otherwise_is_a_difference() {
         assert_eq!(other.status.code(), Some(1), "{other:?}");
         assert!(text(&other.stdout).starts_with("difference at seed 1 case 0 "));
     }
+}
+
+/// Of those at full load none is refused, and another count of evaluations shows.
+#[test]
+fn a_program_that_counts_otherwise_at_full_load_is_a_difference() {
+    let compare = |script: &str| {
+        let words = ["compare", "--full", "--cases", "40", "--seed", "1", "--program", "sh", "-c", script];
+        output(&[&words[..], &[env!("CARGO_BIN_EXE_second")]].concat())
+    };
+    let same = compare("exec \"$0\" answer");
+    assert_eq!(same.status.code(), Some(0), "{same:?}");
+    assert!(text(&same.stdout).starts_with("seed 1: 40 cases, no difference\naccepted: 40 images\n"), "{same:?}");
+    let other = compare("\"$0\" answer | sed 's/ 22 0 [0-9]*/&0/'");
+    assert_eq!(other.status.code(), Some(1), "{other:?}");
+    assert!(text(&other.stdout).contains("\nprogram accepted "), "{other:?}");
 }
 
 /// One line among those of a case, and one line too few.

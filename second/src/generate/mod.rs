@@ -2,6 +2,7 @@
 
 pub mod damage;
 pub mod deadline;
+pub mod full;
 pub mod tables;
 pub mod who;
 
@@ -118,11 +119,18 @@ const EVALUATIONS_IN_TABLE: usize = 1000;
 /// Whether a table takes long under the program's budget: its tasks have not all come to an end after so many charges. The
 /// budget itself is far too much to spend on a table that is one of many.
 pub fn is_dear(table: &Table) -> bool {
-    let numbered = table.numbered();
-    let mut left = (CHARGES_IN_TABLE / charges_in_evaluation(table)).max(EVALUATIONS_IN_TABLE * numbered.len()) as u32;
-    numbered.into_iter().any(|(u, a)| {
-        let Cells { code, evaluations, .. } = cells(&Fixed { table, u, a }, Charging::Imposed, left);
-        left -= evaluations;
-        code == 23
-    })
+    let tasks = table.numbered().len();
+    let most = (CHARGES_IN_TABLE / charges_in_evaluation(table)).max(EVALUATIONS_IN_TABLE * tasks);
+    cells_within(table, most as u32).is_none()
+}
+
+/// The cells of every task, if all of them together come to an end within so many evaluations.
+fn cells_within(table: &Table, evaluations: u32) -> Option<Vec<Cells>> {
+    let mut left = evaluations;
+    let each = |(u, a)| {
+        let cells = cells(&Fixed { table, u, a }, Charging::Imposed, left);
+        left -= cells.evaluations;
+        (cells.code != 23).then_some(cells)
+    };
+    table.numbered().into_iter().map(each).collect()
 }

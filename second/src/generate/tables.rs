@@ -15,7 +15,7 @@ const FORMER_TASKS: usize = 64;
 
 /// How large a field of ticks is, against the period of its transaction.
 #[derive(Clone, Copy)]
-enum Size {
+pub enum Size {
     Zero,
     BelowPeriod,
     SomePeriods,
@@ -38,28 +38,28 @@ impl Size {
 
 /// What the tables of one kind have in common. `load` is the percentage of the frame that all times together aim at.
 #[derive(Clone, Copy)]
-struct Shape {
-    frames: &'static [i64],
-    period: fn(&mut Random, i64) -> i64,
-    transactions: (i64, i64),
-    tasks: (i64, i64),
-    modes: (i64, i64),
-    zeros: i64,
-    offset: Size,
-    jitter: Size,
-    blocking: Size,
-    priorities: i64,
-    load: (i64, i64),
+pub struct Shape {
+    pub frames: &'static [i64],
+    pub period: fn(&mut Random, i64) -> i64,
+    pub transactions: (i64, i64),
+    pub tasks: (i64, i64),
+    pub modes: (i64, i64),
+    pub zeros: i64,
+    pub offset: Size,
+    pub jitter: Size,
+    pub blocking: Size,
+    pub priorities: i64,
+    pub load: (i64, i64),
 }
 
-const TINY_FRAMES: &[i64] = &[1, 2, 3, 4, 6, 8, 10, 12];
-const SMALL_FRAMES: &[i64] = &[10, 16, 20, 24, 30, 36, 40, 48, 60, 72];
-const MIDDLE_FRAMES: &[i64] = &[60, 120, 240, 360, 840, 1000, 1024, 2520];
-const ROUND_FRAMES: &[i64] = &[12, 24, 30, 60, 84, 120, 180, 210, 420];
+pub const TINY_FRAMES: &[i64] = &[1, 2, 3, 4, 6, 8, 10, 12];
+pub const SMALL_FRAMES: &[i64] = &[10, 16, 20, 24, 30, 36, 40, 48, 60, 72];
+pub const MIDDLE_FRAMES: &[i64] = &[60, 120, 240, 360, 840, 1000, 1024, 2520];
+pub const ROUND_FRAMES: &[i64] = &[12, 24, 30, 60, 84, 120, 180, 210, 420];
 const WIDE_FRAMES: &[i64] = &[2520, 5040, 10_000, 27_720, 65_536, 100_800];
 const LARGE_FRAMES: &[i64] = &[720_720, 1_000_000, 8_388_608, 14_414_400, 16_777_200, 16_777_215];
 
-const PLAIN: Shape = Shape {
+pub const PLAIN: Shape = Shape {
     frames: SMALL_FRAMES,
     period: divisor,
     transactions: (1, 4),
@@ -261,11 +261,16 @@ fn shape(random: &mut Random, kind: TableKind) -> Shape {
     }
 }
 
+/// A divisor at hand: the frame shared out a few times, or the frame itself.
 fn divisor(random: &mut Random, frame: i64) -> i64 {
-    // A divisor at hand: the frame shared out a few times, or the frame itself.
+    shared_out(random, frame, (0, 3), &[2, 2, 3, 4, 5, 7])
+}
+
+/// The frame shared out so many times, where it can be.
+pub fn shared_out(random: &mut Random, frame: i64, times: (i64, i64), shares: &[i64]) -> i64 {
     let mut period = frame;
-    for _ in 0..random.within(0, 3) {
-        let share = random.pick(&[2, 2, 3, 4, 5, 7]);
+    for _ in 0..random.within(times.0, times.1) {
+        let share = random.pick(shares);
         if period % share == 0 {
             period /= share;
         }
@@ -274,12 +279,12 @@ fn divisor(random: &mut Random, frame: i64) -> i64 {
 }
 
 /// Any divisor above 1: the periods of a table need not divide one another.
-fn any_divisor(random: &mut Random, frame: i64) -> i64 {
+pub fn any_divisor(random: &mut Random, frame: i64) -> i64 {
     let divisors: Vec<i64> = (2..=frame).filter(|period| frame % period == 0).collect();
     random.pick(&divisors)
 }
 
-fn shaped(random: &mut Random, shape: &Shape) -> Table {
+pub fn shaped(random: &mut Random, shape: &Shape) -> Table {
     let frame = random.pick(shape.frames);
     let count = random.within(shape.transactions.0, shape.transactions.1);
     let load = random.within(shape.load.0, shape.load.1);

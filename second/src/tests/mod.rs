@@ -3,6 +3,7 @@
 mod budget;
 mod by_hand;
 mod desk;
+mod full;
 mod given;
 mod legal;
 mod many;
