@@ -25,8 +25,8 @@ extern "C" {
    the bound in ticks, from the task's event to its finish; with a refusal of the image its place, a bit position; else
    0.
 
-   `image` points to `length` bytes. The time of a call grows with the evaluations that it makes, at most `budget`, and with
-   what one of them costs: a host that must not wait gives a smaller budget than SUMPCANDLE_BUDGET. */
+   `image` points to `length` bytes. The time of a call grows at most with the evaluations of its answer, which are at most
+   `budget`, and with what one of them costs: a host that must not wait gives a smaller budget than SUMPCANDLE_BUDGET. */
 uint64_t sumpcandle_response(const uint8_t *image, size_t length, uint32_t task, uint32_t budget);
 
 /* The answers for every task, into cells: SUMPCANDLE_RESULT_CELLS for each task, in the order of their numbers, from task k's first at
