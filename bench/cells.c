@@ -17,7 +17,7 @@ INLINED uint64_t fill(taking *field, const uint8_t *image, size_t length, uint32
     int refusal = read_table(&bits, field, &table);
     if (refusal != 0) return (uint64_t)refusal << 32 | bits.start;
     if (count / CELLS_OF_TASK < (size_t)table.tasks) return (uint64_t)NO_ROOM << 32;
-    analyse(&table, budget, answers);
+    analyse(&table, table.tasks, budget, answers);
     memcpy(cells, answers, (size_t)table.tasks * sizeof *answers);
     return 0;
 }

@@ -250,10 +250,10 @@ static int is_overloaded(const struct table *table, int a) {
     return demand > table->frame;
 }
 
-void analyse(const struct table *table, uint32_t budget, struct cells *cells) {
+void analyse(const struct table *table, int tasks, uint32_t budget, struct cells *cells) {
     static struct walk walk;
     tabulate(table);
-    for (int a = 0; a < table->tasks; a++) {
+    for (int a = 0; a < tasks; a++) {
         walk.table = table;
         walk.a = a;
         walk.u = table->transaction_of[a];

@@ -158,8 +158,8 @@ static uint32_t walk_task(struct walk *walk) {
     return walk->greatest.response > table->deadline[walk->a] ? LATE : BOUNDED;
 }
 
-void analyse(const struct table *table, uint32_t budget, struct cells *cells) {
-    for (int a = 0; a < table->tasks; a++) {
+void analyse(const struct table *table, int tasks, uint32_t budget, struct cells *cells) {
+    for (int a = 0; a < tasks; a++) {
         struct walk walk = {table, a, 0, 0, budget, 0, {0, 0, 0, 0}};
         uint32_t code = is_overloaded(table, a) ? OVERLOAD : walk_task(&walk);
         cells[a] = cells_of(code, walk.evaluations, &walk.greatest);

@@ -1,16 +1,20 @@
 /* Reads a stream of cases, all for cells, from standard input and prints a line for each, as the second program's
-   `answer` does. Linked with one of plain.c and fast.c. */
+   `answer` does. Linked with one of plain.c and fast.c.
+
+   NAME [TASKS]    answers only for the first so many tasks of a table */
 
 #include "stream.h"
 
 #include <stdio.h>
+#include <stdlib.h>
 
 #include "decode.h"
 
 /* Whole bytes from standard input; what is there at the end of input. */
 static size_t take(uint8_t *bytes, size_t length) { return fread(bytes, 1, length, stdin); }
 
-int main(void) {
+int main(int count, char **arguments) {
+    int most = count > 1 ? atoi(arguments[1]) : TASKS;
     static uint8_t image[65536];
     static struct table table;
     static struct cells cells[TASKS];
@@ -29,9 +33,10 @@ int main(void) {
             printf("refused %d %u\n", refusal, (unsigned)bits.start);
             continue;
         }
-        analyse(&table, budget, cells);
+        int tasks = table.tasks < most ? table.tasks : most;
+        analyse(&table, tasks, budget, cells);
         fputs("accepted", stdout);
-        for (int j = 0; j < table.tasks; j++) {
+        for (int j = 0; j < tasks; j++) {
             const struct cells *each = &cells[j];
             printf(" %u %u %u %u %u %u", (unsigned)each->code, (unsigned)each->bound, (unsigned)each->evaluations,
                    (unsigned)each->mode, (unsigned)each->candidate, (unsigned)each->job);

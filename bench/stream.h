@@ -57,7 +57,7 @@ static inline struct cells cells_of(uint32_t code, uint32_t evaluations, const s
     return cells;
 }
 
-/* The cells of every task. */
-void analyse(const struct table *table, uint32_t budget, struct cells *cells);
+/* The cells of the first so many tasks. */
+void analyse(const struct table *table, int tasks, uint32_t budget, struct cells *cells);
 
 #endif
