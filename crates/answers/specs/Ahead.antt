@@ -1,6 +1,6 @@
 -- What counting whole cycles of an L chain at once says of the chain, in the code's own types.
 use mathlib.Core.Path.{_≡_}
-use Prim.Native.Nat.{ℕ, _+_, _*_, _-_, _≤_, _<_}
+use Prim.Native.Nat.{ℕ, _+_, _*_, _-_, _≤_}
 use Rattle.table.specs.Table.{Table}
 use Rattle.table.specs.Limits.{horizon}
 use Rattle.analysis.specs.Walk.{chain, beyond?}

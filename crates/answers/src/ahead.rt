@@ -10,7 +10,7 @@ use super::quantity::Ticks;
 use super::reads;
 use row::Table;
 ghost use mathlib.Core.Path.{_≡_};
-ghost use Prim.Native.Nat.{_+_, _*_, _-_, _<_, _≤_};
+ghost use Prim.Native.Nat.{_+_, _<_, _≤_};
 ghost use Rattle.row.specs.Row.{tableOf};
 ghost use Rattle.table.specs.Limits.{horizon};
 ghost use Rattle.analysis.specs.Bound.{busy};

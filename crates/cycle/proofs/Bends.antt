@@ -1,8 +1,8 @@
 -- Functions that rise by at most r in D ticks, and by no less the later: sums and greatest of them are such functions too. One that
 -- rises by at most D, and was seen to rise by D, goes on so.
-use mathlib.Core.Path.{_≡_, refl, sym, ap, _∙_}
+use mathlib.Core.Path.{_≡_, refl, ap}
 use Prim.Native.Nat.{ℕ, zero, suc, _+_, _*_, _≤_, _<_, max}
-use native.Mathlib.Nat.{zero-mul, suc-mul, le-trans}
+use native.Mathlib.Nat.{zero-mul, suc-mul}
 use native.Mathlib.Omega.{arith}
 use Rattle.table.specs.Sum.{sum}
 use Rattle.analysis.specs.Choice.{when, unless, most}

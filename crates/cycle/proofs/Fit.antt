@@ -2,7 +2,7 @@
 use mathlib.Core.Path.{_≡_, refl}
 use mathlib.Core.Logic.{_⊎_, inl, inr, ⊎-elim}
 use Prim.Native.Nat.{ℕ, zero, suc, _+_, _*_, _/_, _≤_, _<_, min}
-use native.Mathlib.Nat.{zero-mul, mul-zero, one-mul, add-mul, mul-le-mul-right, div-mul-le-self, div-le-self, div-add-mod', mod-lt, le-refl, le-trans}
+use native.Mathlib.Nat.{mul-zero, one-mul, add-mul, mul-le-mul-right, div-mul-le-self, div-le-self, div-add-mod', mod-lt, le-trans}
 use native.Mathlib.Decide.{decLe, ℕ-discrete}
 use native.Mathlib.Omega.{arith}
 use Rattle.cycle.specs.Cycle.{times, Rounds}

@@ -3,7 +3,7 @@
 use mathlib.Core.Path.{_≡_, refl, sym, ap, _∙_}
 use mathlib.Core.Bool.{true}
 use Prim.Native.Nat.{ℕ, zero, suc, _+_, _-_, _*_, _/_, _%_, _≤_, _<_}
-use native.Mathlib.Nat.{add-mul, mul-assoc, mul-comm, mul-add, div-add-mod', mod-lt, mul-le-mul-left, mul-le-mul-right, le-trans, le-refl}
+use native.Mathlib.Nat.{add-mul, mul-assoc, mul-comm, mul-add, div-add-mod', mod-lt, mul-le-mul-left, le-trans, le-refl}
 use native.Mathlib.Decide.{decLt, ℕ-discrete}
 use native.Mathlib.Omega.{arith}
 use Rattle.table.specs.Sum.{sum}
@@ -18,7 +18,7 @@ use Rattle.periods.proofs.Phase.{phase-lt}
 use Rattle.periods.proofs.Charge.{rel}
 use Rattle.periods.proofs.Quotient.{rel-passed, rel-waiting}
 use Rattle.analysis.specs.Choice.{when, unless, most}
-use Rattle.analysis.specs.Rival.{Rival, Urgent, urgent?, rival?}
+use Rattle.analysis.specs.Rival.{urgent?, rival?}
 use Rattle.analysis.specs.Charge.{phaseOf, heldOf, charge, greatest, others}
 use Rattle.analysis.specs.Bound.{lastJob, own, demand, busy, Setting}
 use Rattle.analysis.specs.Walk.{chain, beyond?}

@@ -1,10 +1,9 @@
 -- `chains::busy_chain` meets its contract. The loop's invariant: the chain that is left gives what the whole gives, and t and
 -- the mark are from 1 to the horizon. The measure is what is left of the budget.
 use mathlib.Core.Path.{sym, _∙_}
-use Prim.Native.Nat.{_-_, _≤_}
+use Prim.Native.Nat.{_-_}
 use native.Mathlib.Omega.{arith}
 use Rattle.row.specs.Row.{tableOf}
-use Rattle.table.specs.Limits.{horizon}
 use Rattle.analysis.specs.Bound.{busy}
 use Rattle.analysis.specs.Walk.{beyond?}
 use Rattle.analysis.proofs.Charges.{busy-some}
