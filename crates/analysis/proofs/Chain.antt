@@ -7,7 +7,7 @@ use native.Mathlib.Decide.{decLt, ℕ-discrete}
 use native.Mathlib.Omega.{arith}
 use Rattle.analysis.specs.Choice.{Least}
 use Rattle.analysis.specs.Chain.{End, came, over, Chain, back, past, on}
-use Rattle.analysis.specs.Walk.{ended, short, chain}
+use Rattle.analysis.specs.Walk.{Stop, ended, short, chain}
 
 -- how the chain from t ends
 pub record Ends (f : ℕ → ℕ) (Over : ℕ → Type 0) (t : ℕ) : Type 0 where
@@ -74,6 +74,22 @@ module _ (f : ℕ → ℕ) {Over : ℕ → Type 0} (over? : (v : ℕ) → Dec (O
   chain-short (past h o) (suc left) l = absurd (omega arith)
   chain-short (on h o r) zero l = refl
   chain-short {t} (on h o r) (suc left) l = rw (step-on t left h o) (chain-short r left (omega arith))
+
+-- The other way round: a budgeted chain that ended is a chain of as many evaluations as it made
+abbrev pub Ended : (f : ℕ → ℕ) (Over : ℕ → Type 0) (left t : ℕ) → Stop → Type 0
+Ended f Over left t (ended e l) = (n : ℕ) × (n + l ≡ left) × Chain f Over t n e
+Ended f Over left t short = Unit {0}
+
+pub chain-ended : (f : ℕ → ℕ) {Over : ℕ → Type 0} (over? : (v : ℕ) → Dec (Over v)) (left t : ℕ) → Ended f Over left t (chain f over? left t)
+unfolding chain
+chain-ended f over? zero t = tt
+chain-ended f {Over} over? (suc left) t = go (ℕ-discrete (f t) t) (over? (f t)) (chain f over? left (f t)) (chain-ended f over? left (f t))
+  where
+    go : (d : Dec (f t ≡ t)) (o : Dec (Over (f t))) (rest : Stop) → Ended f Over left (f t) rest → Ended f Over (suc left) t (elim d [ yes e ↦ ended (came t) left | no g ↦ elim o [ yes q ↦ ended over left | no q ↦ rest ] ])
+    go (yes e) o rest r = (1, omega arith, back e)
+    go (no g) (yes q) rest r = (1, omega arith, past g q)
+    go (no g) (no q) (ended e l) (n, is, c) = (suc n, omega arith, on g q c)
+    go (no g) (no q) short r = tt
 
 -- where t comes back, the function does not change it
 pub came-fixed : {f : ℕ → ℕ} {Over : ℕ → Type 0} {t n w : ℕ} → Chain f Over t n (came w) → f w ≡ w

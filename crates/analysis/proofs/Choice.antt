@@ -29,6 +29,11 @@ unfolding when
 when-mono (yes a) h = h a
 when-mono (no f) h = omega arith
 
+pub unless-yes : {A : Type 0} (d : Dec A) (x : ℕ) → A → unless d x ≡ 0
+unfolding unless
+unless-yes (yes a) x h = refl
+unless-yes (no f) x h = absurd (f h)
+
 pub unless-no : {A : Type 0} (d : Dec A) (x : ℕ) → ¬ A → unless d x ≡ x
 unfolding unless
 unless-no (yes a) x h = absurd (h a)

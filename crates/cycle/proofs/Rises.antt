@@ -2,28 +2,28 @@
 -- than the frame demand. Where a task is not overloaded, its busy demand rises by at most D in D ticks, and by no less the later.
 use mathlib.Core.Path.{_≡_, refl, sym, ap, _∙_}
 use mathlib.Core.Bool.{true}
-use Prim.Native.Nat.{ℕ, zero, suc, _+_, _-_, _*_, _/_, _%_, _≤_, _<_}
+use Prim.Native.Nat.{ℕ, _+_, _-_, _*_, _/_, _%_, _≤_, _<_}
 use native.Mathlib.Nat.{add-mul, mul-assoc, mul-comm, mul-add, div-add-mod', mod-lt, mul-le-mul-left, le-trans, le-refl}
-use native.Mathlib.Decide.{decLt, ℕ-discrete}
+use native.Mathlib.Decide.{ℕ-discrete}
 use native.Mathlib.Omega.{arith}
 use Rattle.table.specs.Sum.{sum}
 use Rattle.table.specs.Table.{Table, IsTask, transactions, transaction, period, modes, tasks, time, blocking}
 use Rattle.table.specs.Limits.{horizon}
 use Rattle.table.specs.Kept.{Kept}
-use Rattle.table.proofs.Sum.{sum-le, sum-ext, sum-mul}
+use Rattle.table.proofs.Sum.{sum-le, sum-ext, sum-beside, sum-mul}
 use Rattle.table.proofs.Ranges.{kept-period}
 use Rattle.periods.specs.Phase.{ceil}
 use Rattle.periods.specs.Charge.{released}
 use Rattle.periods.proofs.Phase.{phase-lt}
 use Rattle.periods.proofs.Charge.{rel}
-use Rattle.periods.proofs.Quotient.{rel-passed, rel-waiting}
+use Rattle.periods.proofs.Quotient.{split-later, rel-later}
 use Rattle.analysis.specs.Choice.{when, unless, most}
 use Rattle.analysis.specs.Rival.{urgent?, rival?}
 use Rattle.analysis.specs.Charge.{phaseOf, heldOf, charge, greatest, others}
 use Rattle.analysis.specs.Bound.{lastJob, own, demand, busy, Setting}
 use Rattle.analysis.specs.Walk.{chain, beyond?}
 use Rattle.analysis.specs.Overload.{Counts, Overload, load, counts?, mostLoad, frameDemand}
-use Rattle.analysis.proofs.Choice.{when-yes, most-ge}
+use Rattle.analysis.proofs.Choice.{when-yes, unless-yes, most-ge}
 use Rattle.analysis.proofs.Join.{own-by}
 use Rattle.charge.specs.Split.{wholePeriods, restOf, restAt, rests}
 use Rattle.charge.specs.Weight.{weight, modeWeight}
@@ -33,60 +33,6 @@ use Rattle.charge.proofs.Weights.{weight-none}
 use Rattle.cycle.specs.Cycle.{Cycle}
 use Rattle.cycle.proofs.Steady.{rounds-later}
 use Rattle.cycle.proofs.Bends.{Bends, bends-steady, bends-plain, bends-more, bends-add, bends-sum, bends-most, bends-when, bends-unless}
-
--- ---- n periods later n jobs more are released
-
-module _ {T : ℕ} (h : 0 < T) where
-  -- t split by the period, and n periods later
-  split : (t : ℕ) → t / T * T + t % T ≡ t
-  split t = div-add-mod' t T
-
-  split-later : (t n : ℕ) → (t / T + n) * T + t % T ≡ t + n * T
-  split-later t n = omega (arith, div-add-mod' t T, add-mul (t / T) n T)
-
-  rel-later : (C φ : ℕ) → φ < T → (t n : ℕ) → rel T C (t + n * T - φ) ≡ rel T C (t - φ) + n * C
-  rel-later C φ below t n =
-      let at : (s : ℕ) (q : ℕ) → q * T + t % T ≡ s → rel T C (s - φ) ≡ rel T C (q * T + t % T - φ) = λ s q e. ap (λ (x : ℕ). rel T C (x - φ)) (sym e) in
-      elim (decLt φ (t % T)) [
-        | yes l ↦
-            omega (
-              arith,
-              at t (t / T) (split t),
-              at (t + n * T) (t / T + n) (split-later t n),
-              rel-passed h C φ below (t % T) (mod-lt t h) (t / T) l,
-              rel-passed h C φ below (t % T) (mod-lt t h) (t / T + n) l,
-              add-mul (t / T) n C,
-            )
-        | no l ↦
-            omega (
-              arith,
-              at t (t / T) (split t),
-              at (t + n * T) (t / T + n) (split-later t n),
-              rel-waiting h C φ below (t % T) (mod-lt t h) (t / T) (omega arith),
-              rel-waiting h C φ below (t % T) (mod-lt t h) (t / T + n) (omega arith),
-              add-mul (t / T) n C,
-            )
-      ]
-
--- ---- a term that a sum leaves out fits beside it
-
-sum-beside : (n : ℕ) {f g : ℕ → ℕ} → ((i : ℕ) → i < n → f i ≤ g i) → (k : ℕ) → k < n → f k ≡ 0 → sum n f + g k ≤ sum n g
-unfolding sum
-sum-beside zero each k l e = absurd (omega arith)
-sum-beside (suc n) {f} {g} each k l e =
-    let last : f n ≤ g n = each n (omega arith) in
-    elim (decLt k n) [
-      | yes h ↦ omega (arith, sum-beside n (λ i m. each i (omega arith)) k h e)
-      | no h ↦
-          let same : k ≡ n = omega arith in
-          let rest : sum n f ≤ sum n g = sum-le n (λ i m. each i (omega arith)) in
-          omega (arith, ap f same, ap g same)
-    ]
-
-unless-yes : {A : Type 0} (d : Dec A) (x : ℕ) → A → unless d x ≡ 0
-unfolding unless
-unless-yes (yes a) x h = refl
-unless-yes (no f) x h = absurd (f h)
 
 -- ---- one transaction
 
@@ -136,7 +82,7 @@ module _ {tab : Table} (kept : Kept tab) {i : ℕ} (h : i < transactions tab) wh
       let short = mod-lt t (kept-period kept h) in
       let now = charge-split kept true h (t / T) (t % T) short u a m c in
       let then = charge-split kept true h (t / T + n) (t % T) short u a m c in
-      let here = ap (charge released tab u a i m c) (split (kept-period kept h) t) in
+      let here = ap (charge released tab u a i m c) (div-add-mod' t T) in
       let there = ap (charge released tab u a i m c) (split-later (kept-period kept h) t n) in
       omega (arith, now, then, here, there, add-mul (t / T) n (modeWeight tab u a i m))
 

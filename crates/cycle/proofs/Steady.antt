@@ -3,10 +3,8 @@
 use mathlib.Core.Path.{_≡_, ap, ap₂, _∙_}
 use Prim.Native.Nat.{ℕ, zero, suc, _+_, _-_, _*_, _≤_}
 use native.Mathlib.Nat.{zero-mul, suc-mul}
-use native.Mathlib.Decide.{ℕ-discrete}
 use native.Mathlib.Omega.{arith}
-use Rattle.analysis.specs.Chain.{Chain, came, over, back, past, on}
-use Rattle.analysis.specs.Walk.{Stop, ended, short, chain}
+use Rattle.analysis.specs.Walk.{chain}
 use Rattle.analysis.proofs.Chain.{step-on}
 use Rattle.cycle.specs.Cycle.{Way, none, next, Cycle}
 
@@ -36,20 +34,3 @@ module _ {f : ℕ → ℕ} {D : ℕ} (steady : Steady f D) {Over : ℕ → Type 
       ∙ ap (chain f over? (left - n)) (omega (arith, suc-mul j D))
       ∙ rounds-later cycle k (suc j) (left - n) (omega (arith, suc-mul k n)) (omega arith)
       ∙ ap₂ (chain f over?) (omega (arith, suc-mul k n)) (omega arith)
-
--- ---- a chain that a budget lasts for, as a chain without one
-
-abbrev pub Lasts : (f : ℕ → ℕ) (Over : ℕ → Type 0) (left t : ℕ) → Stop → Type 0
-Lasts f Over left t (ended e l) = (n : ℕ) × (n + l ≡ left) × Chain f Over t n e
-Lasts f Over left t short = Unit {0}
-
-pub chain-lasts : (f : ℕ → ℕ) {Over : ℕ → Type 0} (over? : (v : ℕ) → Dec (Over v)) (left t : ℕ) → Lasts f Over left t (chain f over? left t)
-unfolding chain
-chain-lasts f over? zero t = tt
-chain-lasts f {Over} over? (suc left) t = go (ℕ-discrete (f t) t) (over? (f t)) (chain f over? left (f t)) (chain-lasts f over? left (f t))
-  where
-    go : (d : Dec (f t ≡ t)) (o : Dec (Over (f t))) (rest : Stop) → Lasts f Over left (f t) rest → Lasts f Over (suc left) t (elim d [ yes e ↦ ended (came t) left | no g ↦ elim o [ yes q ↦ ended over left | no q ↦ rest ] ])
-    go (yes e) o rest r = (1, omega arith, back e)
-    go (no g) (yes q) rest r = (1, omega arith, past g q)
-    go (no g) (no q) (ended e l) (n, is, c) = (suc n, omega arith, on g q c)
-    go (no g) (no q) short r = tt

@@ -1,7 +1,8 @@
 -- Charges where t is split by the period, t = q·T + r with r < T: no division is left but that of t. Over any C.
-use mathlib.Core.Path.{_≡_, ap, _∙_}
-use Prim.Native.Nat.{ℕ, zero, suc, _+_, _*_, _-_, _≤_, _<_, min}
-use native.Mathlib.Nat.{suc-mul, zero-mul}
+use mathlib.Core.Path.{_≡_, ap, sym, _∙_}
+use Prim.Native.Nat.{ℕ, zero, suc, _+_, _*_, _-_, _/_, _%_, _≤_, _<_, min}
+use native.Mathlib.Nat.{suc-mul, zero-mul, add-mul, div-add-mod', mod-lt}
+use native.Mathlib.Decide.{decLt}
 use native.Mathlib.Omega.{arith}
 use Rattle.periods.specs.Phase.{ceil}
 use Rattle.periods.proofs.Charge.{imp, rel, imp-at, imp-zero, ceil-gt, ceil-le}
@@ -43,3 +44,33 @@ module _ {T : ℕ} (h : 0 < T) (C φ : ℕ) (below : φ < T) (r : ℕ) (rest : r
   imp-first l =
       let e : 0 * T + r - φ ≡ 0 = omega (arith, zero-mul T) in
       ap (imp T C) e ∙ imp-zero T C
+
+-- ---- n periods later n jobs more are released
+
+module _ {T : ℕ} (h : 0 < T) where
+  pub split-later : (t n : ℕ) → (t / T + n) * T + t % T ≡ t + n * T
+  split-later t n = omega (arith, div-add-mod' t T, add-mul (t / T) n T)
+
+  pub rel-later : (C φ : ℕ) → φ < T → (t n : ℕ) → rel T C (t + n * T - φ) ≡ rel T C (t - φ) + n * C
+  rel-later C φ below t n =
+      let at : (s : ℕ) (q : ℕ) → q * T + t % T ≡ s → rel T C (s - φ) ≡ rel T C (q * T + t % T - φ) = λ s q e. ap (λ (x : ℕ). rel T C (x - φ)) (sym e) in
+      elim (decLt φ (t % T)) [
+        | yes l ↦
+            omega (
+              arith,
+              at t (t / T) (div-add-mod' t T),
+              at (t + n * T) (t / T + n) (split-later t n),
+              rel-passed h C φ below (t % T) (mod-lt t h) (t / T) l,
+              rel-passed h C φ below (t % T) (mod-lt t h) (t / T + n) l,
+              add-mul (t / T) n C,
+            )
+        | no l ↦
+            omega (
+              arith,
+              at t (t / T) (div-add-mod' t T),
+              at (t + n * T) (t / T + n) (split-later t n),
+              rel-waiting h C φ below (t % T) (mod-lt t h) (t / T) (omega arith),
+              rel-waiting h C φ below (t % T) (mod-lt t h) (t / T + n) (omega arith),
+              add-mul (t / T) n C,
+            )
+      ]

@@ -56,6 +56,20 @@ sum-term (suc n) f i h =
           omega arith
     ]
 
+-- a term that a lesser sum leaves out fits beside it
+pub sum-beside : (n : ℕ) {f g : ℕ → ℕ} → ((i : ℕ) → i < n → f i ≤ g i) → (k : ℕ) → k < n → f k ≡ 0 → sum n f + g k ≤ sum n g
+unfolding sum
+sum-beside zero each k l e = absurd (omega arith)
+sum-beside (suc n) {f} {g} each k l e =
+    let last : f n ≤ g n = each n (omega arith) in
+    elim (decLt k n) [
+      | yes h ↦ omega (arith, sum-beside n (λ i m. each i (omega arith)) k h e)
+      | no h ↦
+          let same : k ≡ n = omega arith in
+          let rest : sum n f ≤ sum n g = sum-le n (λ i m. each i (omega arith)) in
+          omega (arith, ap f same, ap g same)
+    ]
+
 -- one smaller term makes a smaller sum
 pub sum-lt : (n : ℕ) {f g : ℕ → ℕ} → ((i : ℕ) → i < n → f i ≤ g i) → (i : ℕ) → i < n → f i < g i → sum n f < sum n g
 unfolding sum

@@ -20,8 +20,8 @@ use Rattle.analysis.specs.Needed.{Needed, Beyond, pastHorizon}
 use Rattle.analysis.specs.Walk.{ended, chain, beyond?}
 use Rattle.analysis.specs.Answer.{spent, Answers}
 use Rattle.analysis.specs.Computing.{computing}
+use Rattle.analysis.proofs.Chain.{Ended, chain-ended}
 use Rattle.cycle.specs.Cycle.{Cycle, none, next}
-use Rattle.cycle.proofs.Steady.{Lasts, chain-lasts}
 use Rattle.cycle.proofs.Rises.{busy-rounds}
 use Rattle.worked.specs.Promised.{Promised, unmarked}
 use Rattle.worked.proofs.Promised.{keeps}
@@ -67,7 +67,7 @@ order = refl
 -- and these are the evaluations that the task needs
 needed : Needed tab 0 0 (walkOrder tab 0 0) 1_677_722 pastHorizon
 needed =
-    let (n, is, c) = subst (Lasts f Beyond 1_677_722 1) (rounds ∙ last) (chain-lasts f beyond? 1_677_722 1) in
+    let (n, is, c) = subst (Ended f Beyond 1_677_722 1) (rounds ∙ last) (chain-ended f beyond? 1_677_722 1) in
     let all : n ≡ 1_677_722 = omega arith in
     rw order (Needed.past (subst (λ (k : ℕ). Chain f Beyond 1 k over) all c))
 
