@@ -1,0 +1,3 @@
+pub mod Request
+pub mod Plain
+pub mod Cases
