@@ -33,7 +33,7 @@ abbrev alone : (T O J B C P : ℕ) → Table
 alone T O J B C P = lone T (task O J B 60 P (C ∷ []))
 
 -- and two, in a frame of 60
-abbrev two : (T O J B C P T′ O′ J′ B′ C′ P′ : ℕ) → Table
+abbrev pub two : (T O J B C P T′ O′ J′ B′ C′ P′ : ℕ) → Table
 two T O J B C P T′ O′ J′ B′ C′ P′ =
     table 60 (transaction T 1 (task O J B 60 P (C ∷ []) ∷ []) ∷ transaction T′ 1 (task O′ J′ B′ 60 P′ (C′ ∷ []) ∷ []) ∷ [])
 

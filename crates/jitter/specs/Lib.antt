@@ -1,3 +1,4 @@
 pub mod Request
 pub mod Plain
 pub mod Cases
+pub mod Start

@@ -3,6 +3,8 @@ use mathlib.Core.Bool.{Bool, true, false}
 use Prim.Native.Nat.{ℕ, zero, suc}
 use Rattle.refusals.specs.declared.Refusal.{Refusal}
 use Rattle.refusals.specs.declared.Refusal.the-variants.{EndsInside, EditionUnknown, FrameZero, TransactionCount, PeriodUnfit, ModeCount, TaskCount, DeadlineZero, NeverRuns, PaddingSet, BytesFollow, NoRoom, NoTask, DeadlineShort, TooLarge, BufferShort}
+use Rattle.refusals.specs.declared.PlainRefusal.{PlainRefusal}
+use Rattle.refusals.specs.declared.PlainRefusal.the-variants.{NotSingle, NoCompletion, OutOfRange}
 use Rattle.refusals.specs.declared.Answer.{Answer}
 use Rattle.refusals.specs.declared.Answer.the-variants.{Accepted, Refused}
 
@@ -24,6 +26,12 @@ refusalNumber NoTask = 13
 refusalNumber DeadlineShort = 14
 refusalNumber TooLarge = 29
 refusalNumber BufferShort = 30
+
+-- of the plain analysis, document 02's
+abbrev pub plainNumber : PlainRefusal → ℕ
+plainNumber NotSingle = 31
+plainNumber NoCompletion = 32
+plainNumber OutOfRange = 33
 
 abbrev pub answerNumber : Answer → ℕ
 answerNumber Accepted = 0

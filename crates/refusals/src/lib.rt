@@ -1,7 +1,7 @@
 // What is said of a table: accepted, or refused with its first fault, by the number and the place of document 01. Every refusal that a
 // caller may get stands here once; it knows nothing of what is refused.
 ghost use mathlib.Core.Path.{_≡_};
-ghost use Rattle.refusals.specs.Answer.{refusalNumber, answerNumber, answerPlace, isAccepted, _then_, checked};
+ghost use Rattle.refusals.specs.Answer.{refusalNumber, plainNumber, answerNumber, answerPlace, isAccepted, _then_, checked};
 
 // Why an image, a table or a call is refused, in the order of the documents' numbers.
 pub enum Refusal {
@@ -21,6 +21,13 @@ pub enum Refusal {
     DeadlineShort,
     TooLarge,
     BufferShort,
+}
+
+// And why the plain analysis is, where the table is not.
+pub enum PlainRefusal {
+    NotSingle,
+    NoCompletion,
+    OutOfRange,
 }
 
 pub enum Answer {
@@ -49,6 +56,18 @@ impl Refusal {
             Refusal::DeadlineShort => 14,
             Refusal::TooLarge => 29,
             Refusal::BufferShort => 30,
+        }
+    }
+}
+
+impl PlainRefusal {
+    pub fn number(self) -> u32
+        ensures { λ r. ⌜ r ≡ plainNumber self ⌝ }
+    {
+        match self {
+            PlainRefusal::NotSingle => 31,
+            PlainRefusal::NoCompletion => 32,
+            PlainRefusal::OutOfRange => 33,
         }
     }
 }

@@ -1,0 +1,3 @@
+pub mod Approximation
+pub mod Start
+pub mod Line

@@ -1,0 +1,162 @@
+-- A line below what the rivals request, rival by rival: each by its load, from its jitter on, or by what it requests at t. Every
+-- completion from t on is at least where B + C and the line meet t; and where the rivals' load fills the major frame there is none.
+use mathlib.Core.Path.{_≡_, refl, ap, sym, _∙_}
+use Prim.Native.Nat.{ℕ, zero, suc, _+_, _*_, _-_, _/_, _^_, _≤_, _<_}
+use native.Mathlib.Nat.{le-refl, le-trans, mul-le-mul, mul-le-mul-left, mul-le-mul-right, mul-add, add-mul, mul-assoc, mul-comm, mul-sub, div-add-mod', zero-mul}
+use native.Mathlib.Numerals.{add-one}
+use native.Mathlib.Decide.{ℕ-discrete}
+use native.Mathlib.Omega.{arith}
+use Rattle.table.specs.Sum.{sum}
+use Rattle.table.specs.Table.{Table, IsTask, transactions, period, tasks, jitter, blocking, time}
+use Rattle.table.specs.Kept.{Kept}
+use Rattle.table.proofs.Sum.{sum-next}
+use Rattle.table.proofs.Ranges.{kept-period, jitter-lt}
+use Rattle.periods.specs.Phase.{ceil}
+use Rattle.periods.proofs.Charge.{ceil-le}
+use Rattle.analysis.specs.Choice.{when, unless}
+use Rattle.analysis.specs.Rival.{urgent?}
+use Rattle.jitter.specs.Request.{request}
+use Rattle.jitter.specs.Plain.{Single, requestOf, rivalRequest, workload, Completes, Never}
+use Rattle.jitter.specs.Start.{Sound, rivalLoad, load, Line}
+use Rattle.jitter.proofs.Approximation.{ceil-reaches}
+use Rattle.jitter.proofs.Start.{time-some, rival-rises}
+
+-- what is chosen on both sides in one way keeps its order
+chosen : {A B : Type 0} (d : Dec A) (e : Dec B) (x y p q : ℕ) → x * p ≤ q * y → x * unless d (when e p) ≤ q * unless d (when e y)
+unfolding when unless
+chosen (yes a) e x y p q l = omega arith
+chosen (no f) (yes b) x y p q l = l
+chosen (no f) (no g) x y p q l = omega arith
+
+module _ {tab : Table} (kept : Kept tab) where
+  -- a major frame is so many periods
+  whole : {i : ℕ} → i < transactions tab → tab .frame / period tab i * period tab i ≡ tab .frame
+  unfolding period
+  whole {i} h = omega (arith, div-add-mod' (tab .frame) (period tab i), kept .each i h .divides)
+
+  -- in a major frame's time the task requests at s what it demands in one, s + J times
+  pub load-under : (u : ℕ) {i : ℕ} → i < transactions tab → (s : ℕ) → (s + jitter tab i 0) * rivalLoad tab u i ≤ tab .frame * rivalRequest tab u s i
+  unfolding rivalLoad rivalRequest requestOf request
+  load-under u {i} h s =
+      let T = period tab i in
+      let C = time tab i 0 0 in
+      let n = tab .frame / T in
+      let y = s + jitter tab i 0 in
+      let jobs : y * (n * C) ≤ ceil y T * T * (n * C) = mul-le-mul-right (n * C) (ceil-reaches (kept-period kept h) y) in
+      let same : ceil y T * T * (n * C) ≡ tab .frame * (ceil y T * C) =
+      mul-assoc (ceil y T) T (n * C)
+      ∙ ap (λ (x : ℕ). ceil y T * x) (sym (mul-assoc T n C) ∙ ap (λ (x : ℕ). x * C) (mul-comm T n ∙ whole h))
+      ∙ sym (mul-assoc (ceil y T) (tab .frame) C)
+      ∙ ap (λ (x : ℕ). x * C) (mul-comm (ceil y T) (tab .frame))
+      ∙ mul-assoc (tab .frame) (ceil y T) C in
+      chosen (ℕ-discrete i u) (urgent? tab u 0 i 0) y (ceil y T * C) (n * C) (tab .frame) (omega arith)
+
+  -- ---- a line grows by one rival
+
+  module _ {u t : ℕ} where
+    pub line-none : Line tab u t 0 0 0
+    unfolding sum
+    line-none = record { under = λ s l. omega arith; steep = le-refl 0; high = omega arith }
+
+    -- by its load
+    pub line-sloped : {i slope fixed : ℕ} → i < transactions tab → jitter tab i 0 < 2 ^ 24 → Line tab u t i slope fixed → Line tab u t (i + 1) (slope + rivalLoad tab u i) (fixed + jitter tab i 0 * rivalLoad tab u i)
+    line-sloped {i} {slope} {fixed} h short line =
+        let J = jitter tab i 0 in
+        let w = rivalLoad tab u i in
+        let M = tab .frame in
+        let loads = sum-next i (rivalLoad tab u) in
+        let now = sum-next i (rivalRequest tab u t) in
+        let jitters : J * w ≤ 2 ^ 24 * w = mul-le-mul-right w (omega arith) in
+        record {
+          under = λ s l.
+              omega (
+                arith,
+                line .under s l,
+                load-under u h s,
+                mul-add s slope w,
+                add-mul s J w,
+                ap (λ (x : ℕ). M * x) (sum-next i (rivalRequest tab u s)),
+                mul-add M (sum i (rivalRequest tab u s)) (rivalRequest tab u s i),
+              );
+          steep = omega (arith, line .steep);
+          high =
+              omega (
+                arith,
+                line .high,
+                ap (λ (x : ℕ). M * x) now,
+                mul-add M (sum i (rivalRequest tab u t)) (rivalRequest tab u t i),
+              );
+        }
+
+    -- or by what it requests at t
+    pub line-level : {i slope fixed : ℕ} → i < transactions tab → Line tab u t i slope fixed → Line tab u t (i + 1) slope (fixed + tab .frame * rivalRequest tab u t i)
+    line-level {i} {slope} {fixed} h line =
+        let M = tab .frame in
+        let now = sum-next i (rivalRequest tab u t) in
+        record {
+          under = λ s l.
+              omega (
+                arith,
+                line .under s l,
+                mul-le-mul-left M (rival-rises kept u {i = i} {s = t} {t = s} h l),
+                ap (λ (x : ℕ). M * x) (sum-next i (rivalRequest tab u s)),
+                mul-add M (sum i (rivalRequest tab u s)) (rivalRequest tab u s i),
+              );
+          steep = omega (arith, line .steep, sum-next i (rivalLoad tab u));
+          high =
+              omega (
+                arith,
+                line .high,
+                sum-next i (rivalLoad tab u),
+                ap (λ (x : ℕ). M * x) now,
+                mul-add M (sum i (rivalRequest tab u t)) (rivalRequest tab u t i),
+              );
+        }
+
+module _ {tab : Table} (kept : Kept tab) (single : Single tab) {u : ℕ} (owner : u < transactions tab) where
+  -- B + C
+  abbrev own : ℕ
+  own = blocking tab u 0 + time tab u 0 0
+
+  -- a completion in a major frame's time
+  completes-over : {t slope fixed : ℕ} → Line tab u t (transactions tab) slope fixed → (s : ℕ) → t ≤ s → Completes tab u s → tab .frame * own + fixed + s * slope ≤ s * tab .frame
+  unfolding workload
+  completes-over line s l c =
+      let M = tab .frame in
+      let all = sum (transactions tab) (rivalRequest tab u s) in
+      omega (arith, line .under s l, mul-add M own all, ap (λ (x : ℕ). M * x) (c .1), mul-comm M s)
+
+  -- Every completion is at least where the line and B + C meet t
+  pub line-sound : {t slope fixed : ℕ} → Sound tab u t → Line tab u t (transactions tab) slope fixed → slope < tab .frame → {r : ℕ} → r ≡ ceil (tab .frame * own + fixed) (tab .frame - slope) → 1 ≤ r → Sound tab u r
+  line-sound {t} {slope} {fixed} sound line short {r} e some =
+      record {
+        some = some;
+        below = λ s c.
+            let over = completes-over line s (sound .below s c) c in
+            let meets : tab .frame * own + fixed ≤ s * (tab .frame - slope) = omega (arith, mul-sub s (tab .frame) slope) in
+            omega (arith, ceil-le {T = tab .frame - slope} (omega arith) s (tab .frame * own + fixed) meets);
+      }
+
+  -- ---- a full load
+
+  pub single-task : {i : ℕ} → i < transactions tab → IsTask tab i 0
+  single-task {i} h = record { owner = h; place = omega (arith, single .oneTask i h) }
+
+  -- every rival by its load
+  steepest : (n : ℕ) → n ≤ transactions tab → (fixed : ℕ) × Line tab u 1 n (sum n (rivalLoad tab u)) fixed
+  unfolding sum
+  steepest zero l = (0, line-none kept)
+  steepest (suc n) l =
+      let (fixed, line) = steepest n (omega arith) in
+      let next = line-sloped kept {i = n} (omega arith) (jitter-lt kept (single-task (omega arith))) line in
+      (fixed + jitter tab n 0 * rivalLoad tab u n, rw (← add-one n) next)
+
+  -- Rivals that fill the major frame leave no completion
+  pub full-never : tab .frame ≤ load tab u → Never tab u
+  unfolding load
+  full-never full s within c =
+      let (fixed, line) = steepest (transactions tab) (le-refl _) in
+      let over = completes-over line s (c .0) c in
+      let more : s * tab .frame ≤ s * sum (transactions tab) (rivalLoad tab u) = mul-le-mul-left s full in
+      let some : 1 * 1 ≤ tab .frame * own = mul-le-mul {n₁ = 1} {m₁ = 1} (kept .someFrame) (omega (arith, time-some kept single owner)) in
+      omega arith
