@@ -1,3 +1,5 @@
 pub mod Approximation
 pub mod Start
 pub mod Line
+pub mod Ceil
+pub mod Alone

@@ -1,4 +1,5 @@
 pub mod Request
 pub mod Plain
+pub mod Agree
 pub mod Cases
 pub mod Start
