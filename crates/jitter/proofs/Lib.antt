@@ -3,3 +3,4 @@ pub mod Start
 pub mod Line
 pub mod Ceil
 pub mod Alone
+pub mod Least
