@@ -23,25 +23,8 @@ use Rattle.analysis.proofs.Choice.{when-yes, when-no, when-le}
 use Rattle.analysis.proofs.Join.{own-job, own-by, jobs-by}
 use Rattle.jitter.specs.Request.{request}
 use Rattle.jitter.specs.Plain.{Single, requestOf, rivalRequest, workload}
+use Rattle.jitter.proofs.Sums.{sum-one, most-one, unless-same}
 use Rattle.jitter.proofs.Ceil.{self-released, self-ceil}
-
--- ---- of one number
-
-sum-one : (f : ℕ → ℕ) {n : ℕ} → n ≡ 1 → sum n f ≡ f 0
-unfolding sum
-sum-one f e = ap (λ (n : ℕ). sum n f) e ∙ omega arith
-
-most-one : (f : ℕ → ℕ) {n : ℕ} → n ≡ 1 → most n f ≡ f 0
-unfolding most
-most-one f e = ap (λ (n : ℕ). most n f) e ∙ omega arith
-
-when-same : {A : Type 0} (d : Dec A) {x y : ℕ} → x ≡ y → when d x ≡ when d y
-when-same d e = ap (when d) e
-
-unless-same : {A : Type 0} (d : Dec A) {x y : ℕ} → (¬ A → x ≡ y) → unless d x ≡ unless d y
-unfolding unless
-unless-same (yes a) e = refl
-unless-same (no f) e = e f
 
 -- ---- what a transaction charges
 
@@ -88,7 +71,7 @@ module _ {tab : Table} (kept : Kept tab) (single : Single tab) where
       let T = period tab i in
       let C = time tab i 0 0 in
       let is : taskCharge released tab i 0 0 t 0 ≡ requestOf tab i t = omega (arith, released-is T C t (phaseOf tab i 0 0), self-released (kept-period kept h) C (offset tab i 0) (jitter tab i 0) t) in
-      unless-same (ℕ-discrete i u) (λ n. when-same (urgent? tab u 0 i 0) is)
+      unless-same (ℕ-discrete i u) (λ n. ap (when (urgent? tab u 0 i 0)) is)
 
   -- the load of a transaction is at most its task's time, and that only if the task is urgent
   pub load-alone : (u : ℕ) {i : ℕ} → i < transactions tab → mostLoad tab u 0 i ≤ when (urgent? tab u 0 i 0) (time tab i 0 0)

@@ -22,22 +22,9 @@ use Rattle.analysis.proofs.Choice.{when-yes, when-mono, unless-no, unless-mono}
 use Rattle.analysis.proofs.Charges.{imposed-fair, demand-grows}
 use Rattle.analysis.proofs.Turn.{completion-below}
 use Rattle.jitter.specs.Plain.{Single, workload, Completes}
+use Rattle.jitter.proofs.Sums.{sum-aside}
 use Rattle.jitter.proofs.Ceil.{Part, whole-or-part}
 use Rattle.jitter.proofs.Alone.{rivalCharge, isTask, runs-alone, demand-alone, demand-workload}
-
--- Sums that are compared term by term, all but term k: of that one r is left over, and K is lent
-pub sum-aside : (n : ℕ) {f g : ℕ → ℕ} (k r K : ℕ) → k < n → ((i : ℕ) → i < n → ¬ (i ≡ k) → f i ≤ g i) → f k + r ≤ g k + K → sum n f + r ≤ sum n g + K
-unfolding sum
-sum-aside zero k r K l each at = absurd (omega arith)
-sum-aside (suc n) {f} {g} k r K l each at =
-    elim (ℕ-discrete n k) [
-      | yes e ↦
-          let rest : sum n f ≤ sum n g = sum-le n (λ i h. each i (omega arith) (λ q. omega arith)) in
-          omega (arith, ap f e, ap g e)
-      | no e ↦
-          let last : f n ≤ g n = each n (omega arith) e in
-          omega (arith, sum-aside n k r K (omega arith) (λ i h. each i (omega arith)) at)
-    ]
 
 -- at t the task of transaction i is charged a job in part
 abbrev InPart : Table → (i t : ℕ) → Type 0
