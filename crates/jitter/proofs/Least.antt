@@ -1,18 +1,17 @@
 -- At a completion with imposed charges no rival is charged in part: going back by the part would lower the demand by at least as much,
 -- and the completion is the least. So the first job's completion is one of the plain analysis.
-use mathlib.Core.Path.{_≡_, ap}
-use mathlib.Core.Logic.{_⊎_, inl, inr}
-use Prim.Native.Nat.{ℕ, zero, suc, _+_, _*_, _-_, _≤_, _<_}
-use native.Mathlib.Nat.{add-le-add, le-refl, le-of-eq}
+use mathlib.Core.Path.{_≡_, ap, subst}
+use mathlib.Core.Logic.{inl, inr}
+use Prim.Native.Nat.{ℕ, _+_, _*_, _-_, _≤_, _<_}
+use native.Mathlib.Nat.{add-le-add, le-refl}
 use native.Mathlib.Decide.{ℕ-discrete}
 use native.Mathlib.Omega.{arith}
-use Rattle.table.specs.Sum.{sum}
 use Rattle.table.specs.Table.{Table, transactions, period, time}
 use Rattle.table.specs.Kept.{Kept}
 use Rattle.table.proofs.Sum.{sum-le}
 use Rattle.table.proofs.Ranges.{kept-period}
 use Rattle.periods.specs.Charge.{imposed, released}
-use Rattle.periods.proofs.Charge.{imp, rel, imposed-is, released-is}
+use Rattle.periods.proofs.Charge.{imp, imposed-is, released-is}
 use Rattle.analysis.specs.Choice.{when}
 use Rattle.analysis.specs.Rival.{Urgent, urgent?}
 use Rattle.analysis.specs.Charge.{phaseOf, heldOf, taskCharge}
@@ -20,8 +19,8 @@ use Rattle.analysis.specs.Bound.{demand, Completion}
 use Rattle.analysis.specs.Needed.{job}
 use Rattle.analysis.proofs.Choice.{when-yes, when-mono, unless-no, unless-mono}
 use Rattle.analysis.proofs.Charges.{imposed-fair, demand-grows}
-use Rattle.analysis.proofs.Turn.{completion-below}
-use Rattle.jitter.specs.Plain.{Single, workload, Completes}
+use Rattle.analysis.proofs.Turn.{job-completes, job-completion, completion-below}
+use Rattle.jitter.specs.Plain.{Single, workload, Completes, Completion as PlainCompletion}
 use Rattle.jitter.proofs.Sums.{sum-aside}
 use Rattle.jitter.proofs.Ceil.{Part, whole-or-part}
 use Rattle.jitter.proofs.Alone.{rivalCharge, isTask, runs-alone, demand-alone, demand-workload}
@@ -99,3 +98,14 @@ module _ {tab : Table} (kept : Kept tab) (single : Single tab) {u : ℕ} (owner 
   first-completes {w} done =
       let meets : workload tab u w ≡ w = omega (arith, demand-workload kept single owner w, completion-whole 0 done) in
       (omega (arith, runs-alone kept single owner), meets)
+
+  -- The plain completion is the first job's: its chain ends there at the latest, for no more is imposed than is released
+  pub first-completion : {t : ℕ} → PlainCompletion tab u t → Completion imposed tab u 0 0 0 (job tab u 0 0 0) t
+  first-completion {t} plain =
+      let task = isTask kept single owner in
+      let p = job tab u 0 0 0 in
+      let meets : demand imposed tab u 0 0 0 p t ≤ t = omega (arith, demand-grows kept (imposed-fair .within t) task 0 0 p, demand-workload kept single owner t, plain .has .1) in
+      let z = job-completes kept task imposed-fair 0 0 p t meets in
+      let done = job-completion kept task imposed-fair 0 0 p (z .chain) in
+      let same : z .w ≡ t = omega (arith, completion-below kept task imposed-fair 0 0 p done t meets, plain .least (z .w) (first-completes done)) in
+      subst (Completion imposed tab u 0 0 0 p) same done

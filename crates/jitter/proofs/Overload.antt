@@ -6,7 +6,7 @@ use native.Mathlib.Nat.{add-mul, one-mul, mul-assoc, mul-comm, mul-left-comm, mu
 use native.Mathlib.Decide.{ℕ-discrete}
 use native.Mathlib.Omega.{arith}
 use Rattle.table.specs.Sum.{sum}
-use Rattle.table.specs.Table.{Table, transactions, period, jitter, blocking, time}
+use Rattle.table.specs.Table.{Table, transactions, period, jitter, time}
 use Rattle.table.specs.Kept.{Kept}
 use Rattle.table.proofs.Sum.{sum-mul}
 use Rattle.table.proofs.Ranges.{kept-period}
