@@ -6,3 +6,4 @@ pub mod Ceil
 pub mod Alone
 pub mod Least
 pub mod Overload
+pub mod Agree
