@@ -39,6 +39,11 @@ unfolding unless
 unless-no (yes a) x h = absurd (h a)
 unless-no (no f) x h = refl
 
+pub unless-le : {A : Type 0} (d : Dec A) (x : ℕ) → unless d x ≤ x
+unfolding unless
+unless-le (yes a) x = omega arith
+unless-le (no h) x = le-refl x
+
 pub unless-mono : {A : Type 0} (d : Dec A) {x y : ℕ} → (¬ A → x ≤ y) → unless d x ≤ unless d y
 unfolding unless
 unless-mono (yes a) h = omega arith

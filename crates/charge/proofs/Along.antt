@@ -18,12 +18,12 @@ use Rattle.table.proofs.Ranges.{kept-period, modes-few}
 use Rattle.analysis.specs.Choice.{unless, most}
 use Rattle.analysis.specs.Rival.{rival?}
 use Rattle.analysis.specs.Charge.{phaseOf, heldOf, charge, greatest}
-use Rattle.analysis.proofs.Choice.{when-le, unless-no, most-ge, most-le}
+use Rattle.analysis.proofs.Choice.{when-le, unless-no, most-ge, most-le, unless-le}
 use Rattle.charge.specs.Later.{laterOf}
 use Rattle.charge.specs.Split.{wholePeriods, restAt, rests}
 use Rattle.charge.specs.Weight.{weight, modeWeight, heldBack}
 use Rattle.charge.specs.Links.{settingNumber, Below, Spare, none, dropped, Charged, NextSetting, Idle, own, weightless as idle, NextOther}
-use Rattle.charge.proofs.Ranges.{candidateCharge, otherCharge, unless-le, others-room}
+use Rattle.charge.proofs.Ranges.{candidateCharge, otherCharge, others-room}
 use Rattle.charge.proofs.Weights.{weightless, weighty, greatest-weightless}
 use Rattle.charge.proofs.Split.{rest-mono, charge-split}
 

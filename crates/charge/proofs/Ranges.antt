@@ -3,11 +3,10 @@
 use mathlib.Core.Path.{_≡_}
 use mathlib.Core.Bool.{Bool, true, false}
 use lib.IntN.{pos, _-ℤ_}
-use Prim.Native.Nat.{ℕ, _+_, _-_, _*_, _^_, _≤_, _<_, zero-le, max}
+use Prim.Native.Nat.{ℕ, _+_, _-_, _*_, _^_, _≤_, _<_, max}
 use native.Mathlib.Nat.{
   mul-le-mul,
   mul-le-mul-right,
-  le-refl,
   le-trans,
   le-mul-of-pos-right,
   div-le-self,
@@ -27,7 +26,7 @@ use Rattle.periods.proofs.Charge.{rel, imposed-is, released-is, imp≤rel, ceil
 use Rattle.analysis.specs.Choice.{when, unless, most}
 use Rattle.analysis.specs.Rival.{rival?}
 use Rattle.analysis.specs.Charge.{phaseOf, heldOf, taskCharge, charge, greatest, others, rivals}
-use Rattle.analysis.proofs.Choice.{when-le, most-le}
+use Rattle.analysis.proofs.Choice.{when-le, unless-le, most-le}
 use Rattle.charge.specs.Later.{laterOf}
 
 -- ---- sums and greatest as a loop makes them
@@ -61,11 +60,6 @@ rel-le C t φ h =
 later-le : (whole : Bool) {T : ℕ} (C t φ : ℕ) → 0 < T → laterOf whole T C (pos t -ℤ pos φ) ≤ t * C
 later-le true {T} C t φ h = rw (released-is T C t φ) (rel-le C t φ h)
 later-le false {T} C t φ h = rw (imposed-is T C t φ) (le-trans (imp≤rel h C (t - φ)) (rel-le C t φ h))
-
-pub unless-le : {A : Type 0} (d : Dec A) (x : ℕ) → unless d x ≤ x
-unfolding unless
-unless-le (yes a) x = zero-le
-unless-le (no h) x = le-refl x
 
 -- ---- what the loops add up or compare: the charge of a rival, of a candidate and of another transaction
 

@@ -23,11 +23,10 @@ use Rattle.analysis.specs.Charge.{phaseOf, heldOf, charge, greatest, others}
 use Rattle.analysis.specs.Bound.{lastJob, own, demand, busy, Setting}
 use Rattle.analysis.specs.Walk.{chain, beyond?}
 use Rattle.analysis.specs.Overload.{Counts, Overload, load, counts?, mostLoad, frameDemand}
-use Rattle.analysis.proofs.Choice.{when-yes, unless-yes, most-ge}
+use Rattle.analysis.proofs.Choice.{when-yes, unless-yes, unless-le, most-ge}
 use Rattle.analysis.proofs.Join.{own-by}
 use Rattle.charge.specs.Split.{wholePeriods, restOf, restAt, rests}
 use Rattle.charge.specs.Weight.{weight, modeWeight}
-use Rattle.charge.proofs.Ranges.{unless-le}
 use Rattle.charge.proofs.Split.{charge-split}
 use Rattle.charge.proofs.Weights.{weight-none}
 use Rattle.cycle.specs.Cycle.{Cycle}

@@ -2,7 +2,8 @@
 -- of are single charges, and with released charges its demands are those of the plain analysis.
 use mathlib.Core.Path.{_≡_, refl, ap, _∙_, subst}
 use mathlib.Core.Logic.{inl}
-use Prim.Native.Nat.{ℕ, suc, _+_, _*_, _≤_, _<_}
+use Prim.Native.Nat.{ℕ, suc, _+_, _*_, _/_, _≤_, _<_}
+use native.Mathlib.Nat.{div-add-mod'}
 use native.Mathlib.Decide.{ℕ-discrete}
 use native.Mathlib.Omega.{arith}
 use Rattle.table.specs.Sum.{sum}
@@ -31,6 +32,11 @@ use Rattle.jitter.proofs.Ceil.{self-released, self-ceil}
 -- what transaction i charges by t for the task of u: its task's charge, if that is another one of equal or higher priority
 abbrev pub rivalCharge : Later → Table → (u t i : ℕ) → ℕ
 rivalCharge later tab u t i = unless (ℕ-discrete i u) (when (urgent? tab u 0 i 0) (taskCharge later tab i 0 0 t 0))
+
+-- a major frame is so many periods
+pub whole-frame : {tab : Table} → Kept tab → {i : ℕ} → i < transactions tab → tab .frame / period tab i * period tab i ≡ tab .frame
+unfolding period
+whole-frame {tab} kept {i} h = omega (arith, div-add-mod' (tab .frame) (period tab i), kept .each i h .divides)
 
 module _ {tab : Table} (kept : Kept tab) (single : Single tab) where
   pub isTask : {i : ℕ} → i < transactions tab → IsTask tab i 0

@@ -1,6 +1,8 @@
 pub mod Approximation
+pub mod Number
 pub mod Start
 pub mod Line
+pub mod Ranges
 pub mod Sums
 pub mod Ceil
 pub mod Alone

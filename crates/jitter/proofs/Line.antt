@@ -18,8 +18,9 @@ use Rattle.analysis.specs.Rival.{urgent?}
 use Rattle.jitter.specs.Request.{request}
 use Rattle.jitter.specs.Plain.{Single, requestOf, rivalRequest, workload, Completes, Never}
 use Rattle.jitter.specs.Start.{Sound, rivalLoad, load, Line}
-use Rattle.jitter.proofs.Approximation.{ceil-reaches}
-use Rattle.jitter.proofs.Start.{time-some, rival-rises}
+use Rattle.jitter.proofs.Ceil.{ceil-covers}
+use Rattle.jitter.proofs.Alone.{isTask, runs-alone, whole-frame}
+use Rattle.jitter.proofs.Start.{rival-rises}
 
 -- what is chosen on both sides in one way keeps its order
 chosen : {A B : Type 0} (d : Dec A) (e : Dec B) (x y p q : ℕ) → x * p ≤ q * y → x * unless d (when e p) ≤ q * unless d (when e y)
@@ -29,11 +30,6 @@ chosen (no f) (yes b) x y p q l = l
 chosen (no f) (no g) x y p q l = omega arith
 
 module _ {tab : Table} (kept : Kept tab) where
-  -- a major frame is so many periods
-  whole : {i : ℕ} → i < transactions tab → tab .frame / period tab i * period tab i ≡ tab .frame
-  unfolding period
-  whole {i} h = omega (arith, div-add-mod' (tab .frame) (period tab i), kept .each i h .divides)
-
   -- in a major frame's time the task requests at s what it demands in one, s + J times
   pub load-under : (u : ℕ) {i : ℕ} → i < transactions tab → (s : ℕ) → (s + jitter tab i 0) * rivalLoad tab u i ≤ tab .frame * rivalRequest tab u s i
   unfolding rivalLoad rivalRequest requestOf request
@@ -42,10 +38,10 @@ module _ {tab : Table} (kept : Kept tab) where
       let C = time tab i 0 0 in
       let n = tab .frame / T in
       let y = s + jitter tab i 0 in
-      let jobs : y * (n * C) ≤ ceil y T * T * (n * C) = mul-le-mul-right (n * C) (ceil-reaches (kept-period kept h) y) in
+      let jobs : y * (n * C) ≤ ceil y T * T * (n * C) = mul-le-mul-right (n * C) (ceil-covers (kept-period kept h) y) in
       let same : ceil y T * T * (n * C) ≡ tab .frame * (ceil y T * C) =
       mul-assoc (ceil y T) T (n * C)
-      ∙ ap (λ (x : ℕ). ceil y T * x) (sym (mul-assoc T n C) ∙ ap (λ (x : ℕ). x * C) (mul-comm T n ∙ whole h))
+      ∙ ap (λ (x : ℕ). ceil y T * x) (sym (mul-assoc T n C) ∙ ap (λ (x : ℕ). x * C) (mul-comm T n ∙ whole-frame kept h))
       ∙ sym (mul-assoc (ceil y T) (tab .frame) C)
       ∙ ap (λ (x : ℕ). x * C) (mul-comm (ceil y T) (tab .frame))
       ∙ mul-assoc (tab .frame) (ceil y T) C in
@@ -139,16 +135,13 @@ module _ {tab : Table} (kept : Kept tab) (single : Single tab) {u : ℕ} (owner 
 
   -- ---- a full load
 
-  pub single-task : {i : ℕ} → i < transactions tab → IsTask tab i 0
-  single-task {i} h = record { owner = h; place = omega (arith, single .oneTask i h) }
-
   -- every rival by its load
   steepest : (n : ℕ) → n ≤ transactions tab → (fixed : ℕ) × Line tab u 1 n (sum n (rivalLoad tab u)) fixed
   unfolding sum
   steepest zero l = (0, line-none kept)
   steepest (suc n) l =
       let (fixed, line) = steepest n (omega arith) in
-      let next = line-sloped kept {i = n} (omega arith) (jitter-lt kept (single-task (omega arith))) line in
+      let next = line-sloped kept {i = n} (omega arith) (jitter-lt kept (isTask kept single (omega arith))) line in
       (fixed + jitter tab n 0 * rivalLoad tab u n, rw (← add-one n) next)
 
   -- Rivals that fill the major frame leave no completion
@@ -158,5 +151,5 @@ module _ {tab : Table} (kept : Kept tab) (single : Single tab) {u : ℕ} (owner 
       let (fixed, line) = steepest (transactions tab) (le-refl _) in
       let over = completes-over line s (c .0) c in
       let more : s * tab .frame ≤ s * sum (transactions tab) (rivalLoad tab u) = mul-le-mul-left s full in
-      let some : 1 * 1 ≤ tab .frame * own = mul-le-mul {n₁ = 1} {m₁ = 1} (kept .someFrame) (omega (arith, time-some kept single owner)) in
+      let some : 1 * 1 ≤ tab .frame * own = mul-le-mul {n₁ = 1} {m₁ = 1} (kept .someFrame) (omega (arith, runs-alone kept single owner)) in
       omega arith

@@ -1,15 +1,14 @@
 -- The workload never falls and is at least 1. So 1 is a sound start, and with a start its workload; a sound start that comes back is the
 -- completion; and where a start is beyond the horizon there is none.
-use mathlib.Core.Path.{_≡_, ap}
+use mathlib.Core.Path.{_≡_}
 use Prim.Native.Nat.{ℕ, zero, suc, _+_, _≤_, _<_}
 use native.Mathlib.Nat.{le-refl, le-trans, le-of-eq, mul-le-mul-right}
 use native.Mathlib.Decide.{decLt, ℕ-discrete}
 use native.Mathlib.Omega.{arith}
-use lib.ListN.{length, getD}
 use Rattle.table.specs.Sum.{sum}
 use Rattle.table.specs.Limits.{horizon}
-use Rattle.table.specs.Table.{Table, transactions, transaction, modes, tasks, task, noTask, time}
-use Rattle.table.specs.Kept.{Kept, KeptTask}
+use Rattle.table.specs.Table.{Table, transactions, time}
+use Rattle.table.specs.Kept.{Kept}
 use Rattle.table.proofs.Sum.{sum-le}
 use Rattle.table.proofs.Ranges.{kept-period}
 use Rattle.periods.proofs.Charge.{ceil-mono}
@@ -22,6 +21,7 @@ use Rattle.analysis.proofs.Chain.{came-fixed, came-least, comes}
 use Rattle.jitter.specs.Request.{request}
 use Rattle.jitter.specs.Plain.{Single, requestOf, rivalRequest, workload, Completes, Completion, Never}
 use Rattle.jitter.specs.Start.{Sound}
+use Rattle.jitter.proofs.Alone.{runs-alone}
 
 module _ {tab : Table} (kept : Kept tab) where
   pub request-rises : {i s t : ℕ} → i < transactions tab → s ≤ t → requestOf tab i s ≤ requestOf tab i t
@@ -39,19 +39,10 @@ module _ {tab : Table} (kept : Kept tab) where
       omega (arith, sum-le (transactions tab) {f = rivalRequest tab u s} {g = rivalRequest tab u t} (λ i h. rival-rises u h l))
 
 module _ {tab : Table} (kept : Kept tab) (single : Single tab) where
-  -- a task that has one mode runs in it
-  pub time-some : {i : ℕ} → i < transactions tab → 1 ≤ time tab i 0 0
-  unfolding time task tasks modes
-  time-some {i} h =
-      let one : KeptTask (transaction tab i .modes) (getD (transaction tab i .tasks) 0 noTask) = kept .each i h .each 0 (omega (arith, single .oneTask i h)) in
-      let runs = one .runs in
-      let first : runs .mode ≡ 0 = omega (arith, runs .within, one .times, single .oneMode i h) in
-      omega (arith, runs .some, ap (λ (m : ℕ). getD (getD (transaction tab i .tasks) 0 noTask .times) m 0) first)
-
   module _ {u : ℕ} (owner : u < transactions tab) where
     pub workload-some : (t : ℕ) → 1 ≤ workload tab u t
     unfolding workload
-    workload-some t = omega (arith, time-some owner)
+    workload-some t = omega (arith, runs-alone kept single owner)
 
     -- ---- starts
 

@@ -1,0 +1,4 @@
+pub mod Fields
+pub mod Read
+pub mod Ways
+pub mod Answered
