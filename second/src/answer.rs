@@ -4,6 +4,7 @@ use crate::bound::{analyse, Bound, Outcome, Verdict};
 use crate::image::{read, Refusal};
 use crate::interference::{Charging, Fixed};
 use crate::parts::{charge_told, parts, parts_told, Charge, Parts};
+use crate::plain::Plain;
 use crate::stream::{Asked, Question};
 use crate::table::Table;
 use std::fmt::{self, Display, Write};
@@ -104,6 +105,23 @@ pub fn listing(image: &[u8], charging: Charging) -> String {
 pub enum Answer {
     Cells(Result<Vec<Cells>, Refusal>),
     Charge(Result<Charge, Refusal>),
+    Plain(PlainAnswer),
+}
+
+/// Response and approximation of a task, each with its refusal. Both refuse the table and the task alike.
+pub struct PlainAnswer {
+    pub response: Result<i64, Refusal>,
+    pub approximation: Result<i64, Refusal>,
+}
+
+/// The answer to the image of a table, of one of its tasks.
+pub fn plain(image: &[u8], task: usize, k: u32, t: u32) -> PlainAnswer {
+    let table = read(image);
+    let plain = table.as_ref().map_err(|refusal| *refusal).and_then(|table| Plain::of(table, task));
+    PlainAnswer {
+        response: plain.and_then(|plain| plain.response()),
+        approximation: plain.and_then(|plain| plain.approximation(k, t)),
+    }
 }
 
 /// That answer, and its lines.
@@ -128,6 +146,15 @@ pub fn answered(asked: &Asked) -> (Answer, String) {
                 Err(refusal) => (Answer::Charge(Err(refusal)), refused(refusal)),
                 Ok((charge, line)) => (Answer::Charge(Ok(charge)), line),
             }
+        }
+        Question::Plain { task, k, t } => {
+            let answer = plain(&asked.image, task as usize, k, t);
+            let line = |name: &str, value: Result<i64, Refusal>| match value {
+                Err(refusal) => refused(refusal),
+                Ok(value) => format!("{name} {value}\n"),
+            };
+            let text = line("plain", answer.response) + &line("approximate", answer.approximation);
+            (Answer::Plain(answer), text)
         }
     }
 }

@@ -1,10 +1,13 @@
 //! Comparing another program with this one, case by case, over the stream.
 
-use crate::answer::{answered, Answer, Cells};
+use crate::answer::{answered, Answer, Cells, PlainAnswer};
 use crate::generate;
-use crate::image::Refusal;
+use crate::image::{read, Refusal};
 use crate::parts::Charge;
-use crate::stream::{self, Asked};
+use crate::plain::{self, NO_APPROXIMATION};
+use crate::stream::{self, Asked, Question};
+use crate::table::Table;
+use std::cmp::Ordering;
 use std::collections::BTreeMap;
 use std::ffi::OsString;
 use std::fmt::{self, Display};
@@ -31,8 +34,9 @@ pub trait Compared: Default + Display {
     fn told(case: &Self::Case) -> String;
 }
 
-/// How often each answer came: refusals and charges by case, codes by task, and of the bounds those that come from a mode
-/// above 0, from another candidate than the task itself, or from a later job than the first.
+/// How often each answer came: refusals, charges and what the plain analysis gives by case, codes and what the bound is
+/// beside a plain response by task, and of the bounds those that come from a mode above 0, from another candidate than the
+/// task itself, or from a later job than the first.
 #[derive(Default)]
 pub struct Counts {
     refused: BTreeMap<u32, u64>,
@@ -42,7 +46,8 @@ pub struct Counts {
     other_modes: u64,
     other_candidates: u64,
     later_jobs: u64,
-    charges: BTreeMap<&'static str, u64>,
+    images: BTreeMap<&'static str, u64>,
+    tasks: BTreeMap<&'static str, u64>,
 }
 
 impl Counts {
@@ -71,7 +76,51 @@ impl Counts {
             Ok(Charge::Greatest(greatest)) if greatest.charge == 0 => "charge 0, named",
             Ok(Charge::Greatest(_)) => "charge above 0",
         };
-        *self.charges.entry(name).or_default() += 1;
+        *self.images.entry(name).or_default() += 1;
+    }
+
+    /// A refusal of the table, of the task or of the response counts once, though each gives a line of its own.
+    fn add_plain(&mut self, question: Question, image: &[u8], answer: &PlainAnswer) {
+        let Question::Plain { task, k, t } = question else { unreachable!("a plain answer to a plain question") };
+        match answer.response {
+            Err(refusal) => *self.refused.entry(refusal.number).or_default() += 1,
+            Ok(_) => self.accepted += 1,
+        }
+        let table = read(image).ok().filter(|table| (task as usize) < table.transactions.len());
+        let Some(table) = table else { return };
+        let own = &table.transactions[task as usize];
+        let mut names = Vec::new();
+        if let Ok(response) = answer.response {
+            names.push(match response.cmp(&own.period) {
+                Ordering::Less => "response below the period",
+                Ordering::Equal => "response at the period",
+                Ordering::Greater => "response above the period",
+            });
+            names.extend((response > Table::HORIZON).then_some("response above the horizon"));
+        }
+        match answer.approximation {
+            Err(refusal) if refusal.number == NO_APPROXIMATION => names.push("approximation refused 33"),
+            Err(_) => (),
+            Ok(value) => {
+                let (jitter, time) = (own.tasks[0].jitter, own.tasks[0].times[0]);
+                let (k, t) = (k as i64, t as i64);
+                let above = value - own.period * plain::request(own.period, jitter, time, t);
+                names.push(match plain::is_exact(own.period, jitter, k, t) {
+                    true => "approximation up to its edge",
+                    false => "approximation beyond its edge",
+                });
+                names.extend((t + jitter == (k - 1) * own.period).then_some("approximation at its edge"));
+                names.extend((above == time * own.period).then_some("approximation C above the request"));
+            }
+        }
+        for name in names {
+            *self.images.entry(name).or_default() += 1;
+        }
+    }
+
+    /// One more task of that sort.
+    pub fn add_task(&mut self, name: &'static str) {
+        *self.tasks.entry(name).or_default() += 1;
     }
 }
 
@@ -91,6 +140,7 @@ impl Compared for Counts {
         match &answer {
             Answer::Cells(answer) => self.add(answer),
             Answer::Charge(charge) => self.add_charge(charge),
+            Answer::Plain(plain) => self.add_plain(case.question, &case.image, plain),
         }
         text
     }
@@ -123,6 +173,16 @@ pub struct Full;
 impl Source for Full {
     fn asked(seed: u64, index: u64) -> Asked {
         generate::full::case(seed, index).asked()
+    }
+}
+
+/// Cases for the plain analysis.
+#[derive(Default)]
+pub struct Plain;
+
+impl Source for Plain {
+    fn asked(seed: u64, index: u64) -> Asked {
+        generate::plain::asked(seed, index)
     }
 }
 
@@ -172,8 +232,11 @@ impl Display for Counts {
             writeln!(out, "bounds from another candidate: {other_candidates}")?;
             writeln!(out, "bounds from a later job: {later_jobs}")?;
         }
-        for (name, count) in &self.charges {
+        for (name, count) in &self.images {
             writeln!(out, "{name}: {count} images")?;
+        }
+        for (name, count) in &self.tasks {
+            writeln!(out, "{name}: {count} tasks")?;
         }
         Ok(())
     }

@@ -11,6 +11,7 @@ mod generate;
 mod image;
 mod interference;
 mod parts;
+mod plain;
 mod progress;
 mod random;
 mod simulate;
@@ -21,7 +22,7 @@ mod tests;
 mod write;
 
 use arguments::{needed, Arguments};
-use compare::{Counts, Full, Over, Who};
+use compare::{Counts, Full, Over, Plain, Who};
 use interference::Charging;
 use progress::Progress;
 use std::ffi::{OsStr, OsString};
@@ -36,17 +37,21 @@ const HELP: &str = "usage:
   second whole                                 the same with the whole-job bound
   second host TASK BUDGET                      one image on stdin: the host's 64-bit number
   second answer                                a stream of cases on stdin: the lines of each
-  second generate --cases N --seed S [--who | --full]
+  second generate --cases N --seed S [--who | --full | --plain]
                                                a stream of cases on stdout, all of them for cells; with --who also for the
-                                               parts of bounds and for greatest charges, with --full at full load
-  second compare --cases N --seed S [--who | --full] [--batch K] --program COMMAND...
+                                               parts of bounds and for greatest charges, with --full at full load, with
+                                               --plain for the plain analysis and its approximation
+  second compare --cases N --seed S [--who | --full | --plain] [--batch K] --program COMMAND...
                                                compare COMMAND's lines with our own
   second words [--open] [--all]                one image on stdin: what explain says of it, with --open only of the
                                                tasks that are not shown to be in time, with --all what every bound
                                                is made of
   second show [--aligned]                      one image on stdin: its table as text
+  second plain [--explain]                     one image on stdin: the plain response of each task beside its bound, with
+                                               --explain in words
   second words --cases N --seed S --program COMMAND...
   second show --cases N --seed S --program COMMAND...
+  second plain --cases N --seed S --program COMMAND...
                                                compare COMMAND's text of each image with our own
   second write                                 a stream of rows on stdin: one line for each, what is written of it and
                                                read back
@@ -133,6 +138,7 @@ fn run(command: &str, mut arguments: Arguments) -> Result<End, Trouble> {
         }
         "generate" if arguments.flag("--who") => generate_stream::<Over<Who>>(arguments),
         "generate" if arguments.flag("--full") => generate_stream::<Over<Full>>(arguments),
+        "generate" if arguments.flag("--plain") => generate_stream::<Over<Plain>>(arguments),
         "generate" => generate_stream::<Counts>(arguments),
         "compare" => {
             let program = arguments.program()?;
@@ -140,6 +146,8 @@ fn run(command: &str, mut arguments: Arguments) -> Result<End, Trouble> {
                 stream_compared::<Over<Who>>(program, arguments)
             } else if arguments.flag("--full") {
                 stream_compared::<Over<Full>>(program, arguments)
+            } else if arguments.flag("--plain") {
+                stream_compared::<Over<Plain>>(program, arguments)
             } else {
                 stream_compared::<Counts>(program, arguments)
             }
@@ -148,6 +156,7 @@ fn run(command: &str, mut arguments: Arguments) -> Result<End, Trouble> {
         "write" => stream_compared::<write::compare::Counts>(arguments.program()?, arguments),
         "words" => text(desk::Text::Words, arguments),
         "show" => text(desk::Text::Show, arguments),
+        "plain" => text(desk::Text::Plain, arguments),
         "simulate" => {
             let wide = arguments.flag("--wide");
             let (runs, seed) = (arguments.number_if_given("--runs")?, arguments.number_if_given("--seed")?);

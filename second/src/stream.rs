@@ -1,6 +1,7 @@
 //! The stream of cases: a number (4 bytes, most significant first), kind and length of the image (2 bytes: the kind is in
-//! the two highest bits), for a charge the task, the transaction and the way of charging (a byte each), the image, and so
-//! on to the end of input. The number is the budget; for a charge it is t.
+//! the two highest bits), for a charge the task, the transaction and the way of charging (a byte each), for the plain
+//! analysis the task (a byte) and k (4 bytes), the image, and so on to the end of input. The number is the budget; for a
+//! charge and for the plain analysis it is t.
 
 use crate::interference::Charging;
 use std::fmt::{self, Display};
@@ -15,6 +16,8 @@ pub enum Question {
     Parts { budget: u32 },
     /// What a transaction charges a task at t.
     Charge { task: u8, transaction: u8, charging: Charging, t: u32 },
+    /// The plain response of a task, and the approximation of its request at t.
+    Plain { task: u8, k: u32, t: u32 },
 }
 
 impl Display for Question {
@@ -26,6 +29,7 @@ impl Display for Question {
                 let charging = if *charging == Charging::Imposed { "imposed" } else { "released" };
                 write!(out, "task {task} transaction {transaction} {charging} at {t}")
             }
+            Question::Plain { task, k, t } => write!(out, "task {task} plain, k {k} at {t}"),
         }
     }
 }
@@ -38,23 +42,21 @@ pub struct Asked {
 
 const PARTS: u16 = 1 << 14;
 const CHARGE: u16 = 1 << 15;
+const PLAIN: u16 = CHARGE | PARTS;
 const LENGTH: u16 = PARTS - 1;
 
 pub fn encoded(asked: &Asked) -> Vec<u8> {
-    let (number, kind, three) = match asked.question {
+    let (number, kind, more) = match asked.question {
         Question::Cells { budget } => (budget, 0, vec![]),
         Question::Parts { budget } => (budget, PARTS, vec![]),
         Question::Charge { task, transaction, charging, t } => {
             (t, CHARGE, vec![task, transaction, (charging == Charging::Released) as u8])
         }
+        Question::Plain { task, k, t } => (t, PLAIN, [&[task][..], &k.to_be_bytes()].concat()),
     };
     let length = u16::try_from(asked.image.len()).ok().filter(|length| *length <= LENGTH);
     let length = length.expect("an image in a stream has a 14-bit length");
-    [&number.to_be_bytes()[..], &(kind | length).to_be_bytes(), &three, &asked.image].concat()
-}
-
-fn error(kind: io::ErrorKind, told: &str) -> io::Error {
-    io::Error::new(kind, told)
+    [&number.to_be_bytes()[..], &(kind | length).to_be_bytes(), &more, &asked.image].concat()
 }
 
 /// So many bytes. A stream that ends inside a case is an error.
@@ -62,7 +64,7 @@ fn bytes(input: &mut impl Read, count: u16) -> io::Result<Vec<u8>> {
     let mut bytes = Vec::new();
     input.by_ref().take(count as u64).read_to_end(&mut bytes)?;
     if bytes.len() < count as usize {
-        return Err(error(io::ErrorKind::UnexpectedEof, "the stream ends inside a case"));
+        return Err(io::Error::new(io::ErrorKind::UnexpectedEof, "the stream ends inside a case"));
     }
     Ok(bytes)
 }
@@ -82,7 +84,11 @@ pub fn next(input: &mut impl Read) -> io::Result<Option<Asked>> {
             let charging = if whole == 0 { Charging::Imposed } else { Charging::Released };
             Question::Charge { task, transaction, charging, t: number }
         }
-        _ => return Err(error(io::ErrorKind::InvalidData, "no case in the stream is of that kind")),
+        PLAIN => {
+            let [task, k0, k1, k2, k3] = bytes(input, 5)?[..] else { unreachable!("five bytes") };
+            Question::Plain { task, k: u32::from_be_bytes([k0, k1, k2, k3]), t: number }
+        }
+        _ => unreachable!("two bits"),
     };
     Ok(Some(Asked { question, image: bytes(input, kind_and_length & LENGTH)? }))
 }

@@ -38,13 +38,17 @@ fn what_cannot_be_carried_out_is_told_with_status_3() {
         (&["generate", "--cases", "1"], "--seed is missing"),
         (&["generate", "--cases", "many", "--seed", "1"], "--cases needs a number"),
         (&["generate", "--cases", "1", "--seed", "1", "--who", "--full"], "what is --full?"),
+        (&["generate", "--cases", "1", "--seed", "1", "--plain", "--full"], "what is --plain?"),
         (&["compare", "--cases", "1", "--seed", "1"], "--program is missing"),
         (&["compare", "--cases", "1", "--seed", "1", "--program", "/no/program"], "/no/program: "),
         (&["write", "--cases", "1", "--seed", "1"], "--program is missing"),
         (&["write", "--cases", "1", "--seed", "1", "--program", "/no/program"], "/no/program: "),
         (&["words", "--aligned"], "what is --aligned?"),
         (&["show", "--open"], "what is --open?"),
+        (&["plain", "--open"], "what is --open?"),
         (&["words", "--cases", "1", "--seed", "1"], "--program is missing"),
+        (&["plain", "--cases", "1", "--seed", "1"], "--program is missing"),
+        (&["plain", "--explain", "--cases", "1", "--seed", "1", "--program", "true"], "what is --explain?"),
         (&["show", "--cases", "1", "--program", "true"], "--seed is missing"),
         (&["words", "--open", "--cases", "1", "--seed", "1", "--program", "true"], "what is --open?"),
         (&["show", "--cases", "1", "--seed", "1", "--program", "/no/program"], "/no/program: "),
@@ -80,7 +84,9 @@ fn a_closed_pipe_ends_it_without_a_word() {
 #[test]
 fn output_that_cannot_be_written_is_told_with_status_3() {
     let Ok(full) = File::options().write(true).open("/dev/full") else { return };
-    for words in [&["help"][..], &["generate", "--cases", "9", "--seed", "1"], &["list"], &["words"], &["show"]] {
+    for words in
+        [&["help"][..], &["generate", "--cases", "9", "--seed", "1"], &["list"], &["words"], &["show"], &["plain"]]
+    {
         let output = second(words).stdout(full.try_clone().unwrap()).output().unwrap();
         assert_eq!(output.status.code(), Some(3), "{words:?}");
         assert!(text(&output.stderr).starts_with("second: standard output: "), "{words:?}: {output:?}");
@@ -91,7 +97,9 @@ fn output_that_cannot_be_written_is_told_with_status_3() {
 #[test]
 fn an_endless_input_is_refused() {
     let words = "image refused (2): edition is not 1, at byte 0, bit 0: edition\n";
-    for (command, expected) in [("list", "refused 2 0\n"), ("words", words), ("show", words)] {
+    for (command, expected) in
+        [("list", "refused 2 0\n"), ("plain", "refused 2 0\n"), ("words", words), ("show", words)]
+    {
         let output = second(&[command]).stdin(File::open("/dev/zero").unwrap()).output().unwrap();
         assert_eq!(text(&output.stdout), expected);
     }
@@ -161,7 +169,26 @@ fn a_program_that_writes_one_thing_otherwise_is_a_difference() {
     }
 }
 
-/// A program that takes `open` and `aligned` as its last word, and may say something on standard error.
+/// Either of the two lines of a case, by one.
+#[test]
+fn a_program_that_finds_another_plain_response_is_a_difference() {
+    let compare = |script: &str| {
+        let words = ["compare", "--plain", "--cases", "60", "--seed", "1", "--program", "sh", "-c", script];
+        output(&[&words[..], &[env!("CARGO_BIN_EXE_second")]].concat())
+    };
+    let same = compare("exec \"$0\" answer");
+    assert_eq!(same.status.code(), Some(0), "{same:?}");
+    assert!(text(&same.stdout).contains("\nresponse above the period: "), "{same:?}");
+    for (name, line) in [("plain", "\nprogram plain "), ("approximate", "\nprogram approximate ")] {
+        let script = format!("\"$0\" answer | awk '$1 == \"{name}\" && ++n == 9 {{ $2++ }} {{ print }}'");
+        let other = compare(&script);
+        assert_eq!(other.status.code(), Some(1), "{name}: {other:?}");
+        assert!(text(&other.stdout).contains(line), "{name}: {other:?}");
+        assert!(text(&other.stdout).contains(" plain, k "), "{name}: {other:?}");
+    }
+}
+
+/// A program that takes `open`, `aligned` and `explain` as its last word, and may say something on standard error.
 #[test]
 fn a_program_that_tells_otherwise_is_a_difference() {
     let itself = "echo heard >&2; exec \"$0\" \"$1\" ${2:+--$2}";
@@ -169,7 +196,7 @@ fn a_program_that_tells_otherwise_is_a_difference() {
         let words = [command, "--cases", "60", "--seed", "2", "--program", "sh", "-c", script];
         output(&[&words[..], &[env!("CARGO_BIN_EXE_second"), command]].concat())
     };
-    for (command, name) in [("words", "words"), ("show", "text")] {
+    for (command, name) in [("words", "words"), ("show", "text"), ("plain", "plain responses")] {
         let same = compare(command, itself);
         assert_eq!(same.status.code(), Some(0), "{same:?}");
         assert!(text(&same.stdout).starts_with(&format!("seed 2: {name} of 60 images, no difference\nrefused 1: ")));
@@ -220,6 +247,14 @@ fn an_image_on_standard_input_is_told_in_words_and_shown() {
         (&["words"][..], [line, last].concat()),
         (&["words", "--open"], last.into()),
         (&["show"], "frame 10\ntrans 10 1\ntask 0 0 0 10 5 3\n".into()),
+        (&["plain"], "task code bound number response\n0 0 3 0 3\n".into()),
+        (
+            &["plain", "--explain"],
+            "task     period     offset   response      bound\n   \
+                0         10          0          3          3  agree: the bound is response + offset\n\
+             1 task: all agree\n"
+                .into(),
+        ),
         (
             &["show", "--aligned"],
             "frame        10\ntrans        10         1\n\

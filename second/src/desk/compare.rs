@@ -2,7 +2,6 @@
 
 use crate::compare::{hex, run, Counts};
 use crate::desk::Text;
-use crate::generate::image;
 use std::ffi::OsString;
 use std::io::{self, Write};
 use std::process::{Command, Stdio};
@@ -19,7 +18,8 @@ pub struct Plan {
 /// far.
 pub fn compare(plan: &Plan, watch: &mut dyn FnMut(u64)) -> io::Result<(bool, String)> {
     let mut counts = Counts::default();
-    let cheap = (0..).map(|index| (index, image(plan.seed, index))).filter(|(_, image)| !plan.text.is_dear(image));
+    let images = (0..).map(|index| (index, plan.text.image(plan.seed, index)));
+    let cheap = images.filter(|(_, image)| !plan.text.is_dear(image));
     for (done, (index, image)) in (1..=plan.cases).zip(cheap) {
         let words: Vec<&str> =
             (0..).zip(plan.text.words()).filter(|(i, _)| index >> i & 1 == 1).map(|(_, word)| *word).collect();
@@ -35,6 +35,7 @@ pub fn compare(plan: &Plan, watch: &mut dyn FnMut(u64)) -> io::Result<(bool, Str
             return Ok((false, difference(&at, &image, &ours.text, &theirs.stdout)));
         }
         counts.add(&ours.answer);
+        ours.plain.iter().for_each(|judged| counts.add_task(judged.sort()));
         watch(done);
     }
     let Plan { text, cases, seed, .. } = plan;

@@ -3,6 +3,7 @@
 pub mod damage;
 pub mod deadline;
 pub mod full;
+pub mod plain;
 pub mod tables;
 pub mod who;
 

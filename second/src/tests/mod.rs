@@ -8,6 +8,7 @@ mod given;
 mod legal;
 mod many;
 mod papers;
+mod plain;
 mod progress;
 mod refusals;
 mod who;

@@ -1,0 +1,499 @@
+//! Request 7 of document 02: the plain jitter analysis, its approximation, and what is promised of both.
+
+use super::*;
+use crate::answer::{answered, plain};
+use crate::desk::plain::{explained, judged, several, Judged};
+use crate::desk::Text;
+use crate::draft;
+use crate::generate::plain::{asked, image, rivals_demand, table, Aimed, PlainKind, KINDS};
+use crate::image::{read, Refusal};
+use crate::plain::{approximation, is_exact, request, Plain};
+use crate::random::Random;
+use crate::stream::{self, Asked, Question};
+use std::cmp::Ordering;
+use std::collections::BTreeMap;
+
+/// A transaction of one task that starts at 0: period, jitter, blocking, time and priority.
+fn one(period: i64, jitter: i64, blocking: i64, time: i64, priority: i64) -> Transaction {
+    let deadline = 67_108_863;
+    transaction(period, vec![Task { jitter, blocking, deadline, ..task(0, &[time], priority) }])
+}
+
+fn response(table: &Table, number: usize) -> Result<i64, u32> {
+    Plain::of(table, number).and_then(|plain| plain.response()).map_err(|refusal| refusal.number)
+}
+
+fn code_and_bound(table: &Table, number: usize) -> (u32, u32) {
+    let Cells { code, bound, .. } = cells(&Fixed { table, u: number, a: 0 }, Charging::Imposed, PLENTY);
+    (code, bound)
+}
+
+#[test]
+fn approximations_by_hand() {
+    assert_eq!(approximation(10, 1, 3, 1, 0), 33);
+    assert_eq!([0, 17, 18, 27, 28].map(|t| approximation(10, 3, 4, 3, t)), [40, 80, 124, 160, 164]);
+    // Of k the first k − 1 periods are exact, and the edge is among them.
+    assert_eq!([1, 2, 3].map(|k| approximation(10, 0, 4, k, 10)), [80, 40, 40]);
+    assert_eq!([1, 2, 3].map(|k| approximation(10, 0, 4, k, 11)), [84, 84, 80]);
+    // With nothing requested yet the factor still holds: C·T + 0 would not.
+    assert_eq!([1, 2].map(|k| approximation(10, 0, 4, k, 0)), [0, 0]);
+}
+
+/// 'Never below the exact request, never more than C above, and never above (1 + 1/k) of it', in T-ths of a tick. An excess
+/// of exactly C and the factor itself are reached.
+#[test]
+fn approximations_keep_their_promises() {
+    let random = &mut Random::of(70, 0);
+    let (mut exact, mut excess, mut factor) = (0, 0, 0);
+    for _ in 0..300_000 {
+        let most = random.pick(&[4, 20, 1000, Table::HORIZON]);
+        let (period, time) = (random.within(1, most), random.within(1, most));
+        let jitter = random.within(0, 3 * most).min(Table::HORIZON);
+        let t = random.within(0, 5 * most).min(Table::HORIZON);
+        let around = ((t + jitter) / period + random.within(0, 2)).max(1);
+        let any = random.within(1, u32::MAX as i64);
+        let few = random.within(1, 5);
+        let k = random.pick(&[around, around, few, any, u32::MAX as i64]);
+        let value = approximation(period, jitter, time, k, t);
+        let request = request(period, jitter, time, t) * period;
+        assert!(request <= value && value - request <= time * period);
+        let (value, request, k) = (value as i128, request as i128, k as i128);
+        assert!(value * k <= request * (k + 1), "T {period} J {jitter} C {time} k {k} t {t}");
+        exact += (value == request) as u32;
+        excess += (value - request == (time * period) as i128) as u32;
+        factor += (value > request && value * k == request * (k + 1)) as u32;
+    }
+    assert!(exact > 50_000 && excess > 1000 && factor > 1000, "{exact} {excess} {factor}");
+}
+
+/// The literal search: each t, and at each the whole sum, task by task in image order.
+fn literal(table: &Table, number: usize, most: i64) -> Option<i64> {
+    let own = &table.transactions[number].tasks[0];
+    (1..=most).find(|&t| {
+        let mut workload = own.blocking + own.times[0];
+        for (other, Transaction { period, tasks, .. }) in table.transactions.iter().enumerate() {
+            if other != number && tasks[0].priority >= own.priority {
+                let mut jobs = (t + tasks[0].jitter) / period;
+                if (t + tasks[0].jitter) % period > 0 {
+                    jobs += 1;
+                }
+                workload += jobs * tasks[0].times[0];
+            }
+        }
+        workload == t
+    })
+}
+
+#[test]
+fn the_search_is_the_literal_one() {
+    const MOST: i64 = 3000;
+    let mut found = 0;
+    for index in 0..200 {
+        for &kind in KINDS {
+            let Aimed { table, number } = table(&mut Random::of(71, index), kind);
+            let least = Plain::of(&table, number).unwrap().least(MOST);
+            assert_eq!(least, literal(&table, number, MOST), "{table:?}");
+            found += least.is_some() as u32;
+        }
+    }
+    assert!(found > 1000, "{found}");
+}
+
+#[test]
+fn responses_by_hand() {
+    // Blocking, a higher task whose jitter brings a second job in time, one as urgent, and one below.
+    let table = Table {
+        frame: 60,
+        transactions: vec![one(10, 8, 0, 2, 9), one(60, 0, 0, 5, 5), one(30, 4, 3, 4, 5), one(60, 0, 0, 9, 1)],
+    };
+    // 3 + 4 + 5 and two jobs of the first, up to t = 12; then a third.
+    assert_eq!(response(&table, 2), Ok(18 + 4));
+    assert_eq!(response(&table, 0), Ok(2 + 8));
+    // At an edge: t + J = T exactly is one job, and a tick later there are two.
+    let edge = |time: i64| Table { frame: 20, transactions: vec![one(10, 3, 0, 2, 9), one(20, 0, 0, time, 1)] };
+    assert_eq!([5, 6].map(|time| response(&edge(time), 1)), [Ok(7), Ok(10)]);
+    // A floor would take 4 for this task alone in the first period of another.
+    let floor = Table { frame: 10, transactions: vec![one(10, 0, 0, 3, 9), one(10, 0, 0, 4, 1)] };
+    assert_eq!(response(&floor, 1), Ok(7));
+}
+
+/// 'Whenever this response is at most the task's period': a tick above it each of these differs, by 21, by 22, and by a second
+/// job that is later than the first.
+#[test]
+fn a_tick_above_the_period_anything_may_be() {
+    let alone = |blocking: i64, time: i64| Table { frame: 10, transactions: vec![one(10, 0, blocking, time, 1)] };
+    let both = |table: &Table, number: usize| (response(table, number), code_and_bound(table, number));
+    assert_eq!(both(&alone(0, 10), 0), (Ok(10), (0, 10)));
+    assert_eq!(both(&alone(0, 11), 0), (Ok(11), (21, 0)));
+    assert_eq!(both(&alone(1, 10), 0), (Ok(11), (22, 0)));
+    let queue = Table { frame: 12, transactions: vec![one(6, 0, 0, 3, 9), one(4, 0, 0, 2, 1)] };
+    assert_eq!(both(&queue, 1), (Ok(5), (0, 6)));
+}
+
+#[test]
+fn the_horizon_is_among_the_completions_and_the_response_may_pass_it() {
+    let alone = |jitter: i64, blocking: i64, time: i64| Table {
+        frame: Table::HORIZON,
+        transactions: vec![one(Table::HORIZON, jitter, blocking, time, 1)],
+    };
+    let most = Table::HORIZON;
+    assert_eq!(response(&alone(0, 0, most), 0), Ok(most));
+    assert_eq!(response(&alone(most, 0, most), 0), Ok(2 * most));
+    assert_eq!(response(&alone(0, 1, most), 0), Err(32));
+    assert_eq!(response(&alone(0, most, most), 0), Err(32));
+    // The others take the whole frame: nothing is left, however little it is.
+    let full = Table { frame: 10, transactions: vec![one(10, 0, 0, 10, 9), one(10, 0, 0, 1, 1)] };
+    assert_eq!(response(&full, 1), Err(32));
+}
+
+/// Both answers as pairs of number and place, or as values.
+fn both(image: &[u8], task: usize, k: u32, t: u32) -> [Result<i64, (u32, u32)>; 2] {
+    let answer = plain(image, task, k, t);
+    [answer.response, answer.approximation].map(|each| each.map_err(|Refusal { number, place }| (number, place)))
+}
+
+#[test]
+fn refusals_in_their_order() {
+    let several = draft::image(&s());
+    let good = draft::image(&Table { frame: 10, transactions: vec![one(10, 1, 0, 3, 5), one(10, 0, 0, 11, 9)] });
+    let mut cut = good.clone();
+    cut.pop();
+    let (horizon, beyond) = (Table::HORIZON as u32, Table::HORIZON as u32 + 1);
+    // 1 before 13 before 31 before 32 and 33: each has the later faults too.
+    assert_eq!(both(&[], 9, 0, beyond), [Err((1, 0)); 2]);
+    assert_eq!(both(&cut, 9, 0, beyond)[0].map_err(|(number, _)| number), Err(1));
+    assert_eq!(both(&cut, 9, 0, beyond)[0], both(&cut, 0, 1, 0)[1]);
+    assert_eq!(both(&several, 3, 0, beyond), [Err((13, 0)); 2]);
+    assert_eq!(both(&several, 2, 0, beyond), [Err((31, 0)); 2]);
+    assert_eq!(both(&good, 2, 0, beyond), [Err((13, 0)); 2]);
+    assert_eq!(both(&good, 0, 0, 0), [Err((32, 0)), Err((33, 0))]);
+    assert_eq!(both(&good, 0, 1, beyond), [Err((32, 0)), Err((33, 0))]);
+    assert_eq!(both(&good, 0, 1, u32::MAX), [Err((32, 0)), Err((33, 0))]);
+    // One of the two may be refused alone; t may be 0, and H.
+    assert_eq!(both(&good, 0, 1, 0), [Err((32, 0)), Ok(33)]);
+    assert_eq!(both(&good, 1, 0, 0), [Ok(11), Err((33, 0))]);
+    assert_eq!(both(&good, 0, 1, horizon), [Err((32, 0)), Ok(30 + 3 * (Table::HORIZON + 1))]);
+    // (k − 1)·T takes 56 bits, and then all is exact.
+    let long = draft::image(&Table { frame: Table::HORIZON, transactions: vec![one(Table::HORIZON, 0, 0, 7, 5)] });
+    assert_eq!(both(&long, 0, u32::MAX, horizon), [Ok(7), Ok(7 * Table::HORIZON)]);
+    let many = draft::image(&Table { frame: 256, transactions: vec![one(256, 0, 0, 7, 5)] });
+    assert_eq!(both(&many, 0, (1 << 24) + 1, 1), [Ok(7), Ok(7 * 256)]);
+}
+
+/// Several modes alone are enough, and a task that does not run in all of them; where a transaction has them plays no part.
+#[test]
+fn several_modes_or_tasks_are_refused_wherever_they_are() {
+    let plain = vec![one(10, 0, 0, 1, 5); 3];
+    for v in 0..3 {
+        for tasks in [vec![task(0, &[1, 0], 5)], vec![task(0, &[1], 5); 2], vec![task(0, &[1, 1], 5); 3]] {
+            let mut transactions = plain.clone();
+            let told = (tasks.len(), tasks[0].times.len());
+            transactions[v] = transaction(10, tasks);
+            // A further one behind is not the first.
+            transactions.push(transaction(10, vec![task(0, &[1, 2], 5); 4]));
+            let table = Table { frame: 10, transactions };
+            assert_eq!(response(&table, 2), Err(31));
+            let words = format!(
+                "table refused (31): transaction {v} has several tasks or modes (tasks {}, modes {})\n",
+                told.0, told.1
+            );
+            assert_eq!(several(&table), Some(words.clone()));
+            let image = draft::image(&table);
+            assert_eq!(Text::Plain.told(&image, &["explain"]).text, words);
+            assert_eq!(Text::Plain.told(&image, &[]).text, "refused 31 0\n");
+        }
+    }
+}
+
+#[test]
+fn offsets_play_no_part() {
+    for index in 0..300 {
+        let random = &mut Random::of(72, index);
+        let Aimed { mut table, number } = table(random, PlainKind::Small);
+        let before = Plain::of(&table, number).unwrap().least(5000);
+        for transaction in &mut table.transactions {
+            transaction.tasks[0].offset = random.within(0, 3 * transaction.period);
+        }
+        assert_eq!(Plain::of(&table, number).unwrap().least(5000), before);
+    }
+}
+
+/// What is promised of response and bound. The response is searched up to H if there is a bound, else up to the period. True
+/// if it is at most the period.
+fn promised(table: &Table, number: usize, budget: u32) -> bool {
+    let Transaction { period, tasks, .. } = &table.transactions[number];
+    let (offset, jitter) = (tasks[0].offset, tasks[0].jitter);
+    let Cells { code, bound, .. } = cells(&Fixed { table, u: number, a: 0 }, Charging::Imposed, budget);
+    let bound = matches!(code, 0 | 20).then_some(bound as i64);
+    let most = if bound.is_some() { Table::HORIZON } else { *period };
+    let response = Plain::of(table, number).unwrap().least(most).map(|t| t + jitter);
+    if let Some(bound) = bound {
+        assert!(response.is_some_and(|response| bound >= response + offset), "task {number} of {table:?}");
+    }
+    let is_up_to_period = response.is_some_and(|response| response <= *period);
+    if is_up_to_period && code != 23 {
+        assert_eq!(bound, response.map(|response| response + offset), "task {number} of {table:?}");
+    }
+    is_up_to_period
+}
+
+/// Every table of two tasks with a frame of 12 and small numbers, some offsets aside.
+#[test]
+fn the_bound_is_response_and_offset_on_all_small_tables() {
+    let (mut up_to_period, mut all) = (0, 0);
+    let each = |count: i64| 0..count;
+    for (period, other_period) in [4, 6, 12].into_iter().flat_map(|period| [4, 6, 12].map(|other| (period, other))) {
+        for (jitter, other_jitter) in each(36).map(|index| (index % 6, index / 6)) {
+            for (time, other_time) in each(18).map(|index| (1 + index % 6, 1 + index / 6)) {
+                for (blocking, offset, other_offset) in [(0, 0, 0), (0, 3, 2), (1, 0, 1), (1, 15, 0), (2, 2, 3)] {
+                    let own = one(period, jitter, blocking, time, 1);
+                    let other = one(other_period, other_jitter, 0, other_time, 1);
+                    let mut table = Table { frame: 12, transactions: vec![own, other] };
+                    table.transactions[0].tasks[0].offset = offset;
+                    table.transactions[1].tasks[0].offset = other_offset;
+                    up_to_period += promised(&table, 0, 500) as u32;
+                    all += 1;
+                }
+            }
+        }
+    }
+    assert!(up_to_period > 5000, "{up_to_period} of {all}");
+}
+
+/// Of each kind that stays small; some with a budget that does not last.
+#[test]
+fn the_bound_is_response_and_offset_on_random_tables() {
+    use PlainKind::*;
+    let mut up_to_period = BTreeMap::new();
+    for kind in [Tiny, Small, Middle, EqualPriorities, JitterAbovePeriod, AroundPeriod, OverloadedTogether, NearlyFull]
+    {
+        for index in 0..600 {
+            let random = &mut Random::of(73, index);
+            let Aimed { table, .. } = table(random, kind);
+            let budget = random.pick(&[3000, 3000, 20, 5]);
+            for number in 0..table.transactions.len() {
+                let is_up_to_period = promised(&table, number, budget);
+                *up_to_period.entry(format!("{kind:?}")).or_insert(0) += is_up_to_period as u32;
+            }
+        }
+    }
+    assert!(up_to_period.values().all(|&count| count > 30), "{up_to_period:?}");
+}
+
+/// The generator's questions, encoded and read back.
+#[test]
+fn a_stream_of_plain_cases_is_read_as_it_was_written() {
+    let cases: Vec<Asked> = (0..50).map(|index| asked(74, index)).collect();
+    let bytes: Vec<u8> = cases.iter().flat_map(stream::encoded).collect();
+    let mut input = &bytes[..];
+    for case in &cases {
+        assert_eq!(stream::next(&mut input).unwrap().as_ref(), Some(case));
+    }
+    assert_eq!(stream::next(&mut input).unwrap(), None);
+    let image = draft::image(&Table { frame: 10, transactions: vec![one(10, 1, 0, 3, 5)] });
+    let case = Asked { question: Question::Plain { task: 0, k: 0x01020304, t: 5 }, image: image.clone() };
+    let head = [0, 0, 0, 5, 0xC0, image.len() as u8, 0, 1, 2, 3, 4];
+    assert_eq!(stream::encoded(&case), [&head[..], &image].concat());
+    assert_eq!(answered(&case).1, "plain 4\napproximate 30\n");
+    let refused = Asked { question: Question::Plain { task: 1, k: 0, t: 5 }, image };
+    assert_eq!(answered(&refused).1, "refused 13 0\nrefused 13 0\n");
+}
+
+/// The situations that an answer could get wrong come, each of them often.
+#[test]
+fn every_situation_comes_in_the_cases() {
+    let mut seen: BTreeMap<String, u32> = BTreeMap::new();
+    let mut see = |name: &str| *seen.entry(name.into()).or_default() += 1;
+    for index in 0..4000 {
+        let Asked { question, image } = asked(75, index);
+        let Question::Plain { task, k, t } = question else { panic!("a plain question") };
+        let (k, t) = (k as i64, t as i64);
+        let table = match read(&image) {
+            Err(refusal) => {
+                see(&format!("refused {}", refusal.number));
+                continue;
+            }
+            Ok(table) => table,
+        };
+        let plain = match Plain::of(&table, task as usize) {
+            Err(refusal) => {
+                see(&format!("refused {}", refusal.number));
+                continue;
+            }
+            Ok(plain) => plain,
+        };
+        let (period, jitter, frame) = (plain.own().period, plain.task().jitter, table.frame);
+        let by = |what: &str, order: Ordering| format!("{what} {order:?}");
+        see(&by("jitter and period", jitter.cmp(&period)));
+        see(if jitter == 0 { "no jitter" } else { "jitter" });
+        see(if plain.task().blocking == 0 { "no blocking" } else { "blocking" });
+        see(if plain.others().is_empty() { "alone" } else { "others" });
+        let is_equal = |other: &Plain| other.task().priority == plain.task().priority;
+        see(if plain.others().iter().any(is_equal) { "equal priority" } else { "no equal priority" });
+        let rivals = rivals_demand(&Aimed { table: table.clone(), number: task as usize });
+        see(&by("rivals and frame", rivals.cmp(&frame)));
+        if rivals < frame {
+            see(&by("together and frame", (rivals + frame / period * plain.time()).cmp(&frame)));
+        }
+        if let Some(completion) = plain.least(20_000) {
+            let response = completion + jitter;
+            see(&by("response and period", response.cmp(&period)));
+            if (response - period).abs() == 1 {
+                see(&by("response a tick beside period", response.cmp(&period)));
+            }
+        }
+        let past = |at: i64| plain.workload(&plain.others(), at) == at;
+        for (at, name) in [(Table::HORIZON, "meets H"), (Table::HORIZON + 1, "meets H + 1")] {
+            if past(at) && literal_from(&plain, at) {
+                see(name);
+            }
+        }
+        see(if k == 0 {
+            "k 0"
+        } else if k == 1 {
+            "k 1"
+        } else if k > 1 << 30 {
+            "k huge"
+        } else {
+            "k"
+        });
+        let edge = (k - 1) * period - jitter;
+        let name = match t - Table::HORIZON {
+            _ if t == 0 => "t 0",
+            0 => "t H",
+            1 => "t H + 1",
+            2.. => "t huge",
+            _ => "t",
+        };
+        see(name);
+        if k > 0 && t <= Table::HORIZON {
+            let beside = t - edge;
+            if beside.abs() <= 1 {
+                see(&format!("edge {beside}"));
+            }
+            see(if is_exact(period, jitter, k, t) { "exact" } else { "linear" });
+            see(&format!("k and (t + J)/T + 1 {:?}", k.cmp(&((t + jitter) / period + 1))));
+        }
+    }
+    let rare =
+        ["meets H", "meets H + 1", "refused 3", "refused 4", "refused 5", "refused 6", "refused 10", "refused 11"];
+    for (name, count) in &seen {
+        let least = if rare.contains(&name.as_str()) { 5 } else { 20 };
+        assert!(*count >= least, "{name}: {seen:?}");
+    }
+    assert_eq!(seen.len(), 55, "{seen:?}");
+}
+
+/// No t from 1 on meets the workload before this one: the steps of a search that jumps as far as the workload says.
+fn literal_from(plain: &Plain, at: i64) -> bool {
+    let others = plain.others();
+    let mut t = 1;
+    while t < at {
+        let workload = plain.workload(&others, t);
+        if workload <= t {
+            return false;
+        }
+        t = workload;
+    }
+    t == at
+}
+
+#[test]
+fn tables_of_each_kind_are_read_as_they_were_written() {
+    for &kind in KINDS {
+        for index in 0..200 {
+            let Aimed { table, .. } = table(&mut Random::of(76, index), kind);
+            assert_eq!(read(&draft::image(&table)).as_ref(), Ok(&table), "{kind:?}");
+        }
+    }
+}
+
+fn told(table: &Table, words: &[&str]) -> String {
+    Text::Plain.told(&draft::image(table), words).text
+}
+
+const HEADER: &str = "task     period     offset   response      bound\n";
+
+#[test]
+fn each_task_is_listed_with_both() {
+    let mut table =
+        Table { frame: 12, transactions: vec![one(6, 0, 0, 3, 9), one(4, 0, 0, 2, 1), one(12, 0, 0, 1, 0)] };
+    table.transactions[0].tasks[0].offset = 1234;
+    let listed = "task code bound number response\n0 0 1237 0 3\n1 0 6 0 5\n2 21 0 32 0\n";
+    assert_eq!(told(&table, &[]), listed);
+    let words = "   0          6      1,234          3      1,237  agree: the bound is response + offset
+   1          4          0          5          6  1 above response + offset: the response is above the period, so jobs \
+may queue, and it is that of the first alone
+   2         12          0          -          -  no response: no completion up to the horizon of 16,777,215 ticks
+3 tasks: 1 agree, 1 above, 1 not to compare\n";
+    assert_eq!(told(&table, &["explain"]), [HEADER, words].concat());
+}
+
+#[test]
+fn a_table_where_all_agree() {
+    let one_task = Table { frame: 10, transactions: vec![one(10, 0, 0, 10, 1)] };
+    let line = "   0         10          0         10         10  agree: the bound is response + offset\n";
+    assert_eq!(told(&one_task, &["explain"]), [HEADER, line, "1 task: all agree\n"].concat());
+    let above = Table { frame: 10, transactions: vec![one(10, 7, 0, 5, 1), one(10, 0, 0, 2, 2)] };
+    let lines = "   0         10          0         14         14  agree, though the response is above the period
+   1         10          0          2          2  agree: the bound is response + offset
+2 tasks: all agree\n";
+    assert_eq!(told(&above, &["explain"]), [HEADER, lines].concat());
+}
+
+/// Without bounds, and one that spends the budget, on both sides of its period: as if a hundred million had been spent.
+#[test]
+fn tasks_without_a_bound_in_words() {
+    let table = Table { frame: 10, transactions: vec![one(10, 0, 0, 11, 1)] };
+    let words =
+        "   0         10          0         11          -  no bound: it and the tasks that can delay it may want more \
+than the major frame holds; the response is above the period, and is that of one job alone
+1 task: 1 not to compare\n";
+    assert_eq!(told(&table, &["explain"]), [HEADER, words].concat());
+    let table = Table { frame: 10, transactions: vec![one(10, 0, 1, 10, 1)] };
+    let words =
+        "   0         10          0         11          -  no bound: no busy time up to the horizon of 16,777,215 \
+ticks was found to end; the response is above the period, and is that of one job alone
+1 task: 1 not to compare\n";
+    assert_eq!(told(&table, &["explain"]), [HEADER, words].concat());
+    let spent = |response: i64| Judged {
+        number: 127,
+        period: 1000,
+        offset: 16_777_215,
+        response: Some(response),
+        code: 23,
+        bound: None,
+    };
+    let words =
+        " 127      1,000 16,777,215      1,000          -  not decided: 100,000,000 evaluations were not enough; the \
+bound is response + offset where more are
+ 127      1,000 16,777,215      1,001          -  not decided: 100,000,000 evaluations were not enough
+2 tasks: 2 not to compare\n";
+    assert_eq!(explained(&[spent(1000), spent(1001)]), [HEADER, words].concat());
+}
+
+/// A refusal of the image is told as the other programs tell it.
+#[test]
+fn a_refused_image_is_told_as_elsewhere() {
+    let mut refusals = BTreeMap::new();
+    for index in 0..400 {
+        let image = image(77, index);
+        let Err(Refusal { number, place }) = read(&image) else { continue };
+        assert_eq!(Text::Plain.told(&image, &[]).text, format!("refused {number} {place}\n"));
+        assert_eq!(Text::Plain.told(&image, &["explain"]).text, Text::Words.told(&image, &[]).text);
+        *refusals.entry(number).or_insert(0) += 1;
+    }
+    assert!(refusals.len() > 9, "{refusals:?}");
+}
+
+/// A budget that does not last leaves the response as it is.
+#[test]
+fn the_response_asks_for_no_budget() {
+    let table = Table { frame: 10, transactions: vec![one(10, 0, 0, 3, 5), one(10, 0, 0, 4, 1)] };
+    let row: Vec<Cells> = (0..2).map(|u| cells(&Fixed { table: &table, u, a: 0 }, Charging::Imposed, 0)).collect();
+    let all = judged(&table, &row);
+    assert_eq!(
+        all.iter().map(|judged| (judged.code, judged.response)).collect::<Vec<_>>(),
+        [(23, Some(3)), (23, Some(7))]
+    );
+}
