@@ -52,6 +52,8 @@ pub enum PlainKind {
     /// The completion is H, or a tick beside it.
     AroundHorizon,
     ExtremeFields,
+    /// The workload takes more than 32 bits, and the lower 32 of it are a t.
+    LongWorkload,
 }
 
 pub const KINDS: &[PlainKind] = &[
@@ -72,6 +74,7 @@ pub const KINDS: &[PlainKind] = &[
     PlainKind::NearlyFull,
     PlainKind::AroundHorizon,
     PlainKind::ExtremeFields,
+    PlainKind::LongWorkload,
 ];
 
 const LONG_FRAMES: &[i64] = &[27_720, 65_536, 100_800, 720_720, 1_000_000, 8_388_608, 16_777_200, 16_777_215];
@@ -109,6 +112,7 @@ fn shape(random: &mut Random, kind: PlainKind) -> Shape {
             let frames = random.pick(&[LONG_FRAMES, LONG_FRAMES, frames]);
             Shape { frames, offset: Size::Any, blocking: Size::Any, load: (5, 120), ..one }
         }
+        PlainKind::LongWorkload => Shape { transactions: (1, 1), blocking: Size::Zero, load: (1, 20), ..one },
     }
 }
 
@@ -165,6 +169,7 @@ pub fn table(random: &mut Random, kind: PlainKind) -> Aimed {
         PlainKind::OverloadedTogether => overload(random, &mut aimed),
         PlainKind::NearlyFull => nearly_fill(random, &mut aimed),
         PlainKind::AroundHorizon => reach_horizon(random, &mut aimed),
+        PlainKind::LongWorkload => pass_32_bits(random, &mut aimed),
         _ => (),
     }
     deadline::raise(&mut aimed.table);
@@ -253,6 +258,22 @@ fn reach_horizon(random: &mut Random, aimed: &mut Aimed) {
         plain.workload(&plain.others(), at) - plain.task().blocking
     };
     aimed.task().blocking = (at - without).clamp(0, FIELD_24);
+}
+
+/// One more task, at least as urgent, has 256 or so jobs held back that together take 2^32 ticks or a little less; blocking
+/// makes up for what is missing.
+fn pass_32_bits(random: &mut Random, aimed: &mut Aimed) {
+    let (frame, time) = (aimed.table.frame, FIELD_24 - random.within(0, 3));
+    let jobs = random.pick(&[256, 257, 512]);
+    let (priority, jitter) = (random.within(aimed.task().priority, 255), (jobs - 1) * frame);
+    let deadline = FIELD_26;
+    let task = Task { offset: 0, jitter, blocking: 0, deadline, priority, times: vec![time] };
+    aimed.table.transactions.push(Transaction { period: frame, modes: 1, tasks: vec![task] });
+    // In the first frame it has as many jobs; less than a frame is left beyond whole words.
+    let missing = (-jobs * time).rem_euclid(1 << 32);
+    let left = random.within(0, frame - 1);
+    let blocking = missing + left - aimed.task().times[0];
+    aimed.task().blocking = blocking.clamp(0, FIELD_24);
 }
 
 /// About how many steps and requests a search takes at most, if it is not over soon.
@@ -348,7 +369,8 @@ pub fn asked(seed: u64, index: u64) -> Asked {
 }
 
 /// k and t: mostly t is where the request changes, where the horizon is or anywhere, and k on either side of what makes it
-/// exact there; else k is small, and t is where the approximation begins to be linear.
+/// exact there, or far beyond, also where (k − 1)·T is just past 32 bits; else k is small, and t is where the approximation
+/// begins to be linear.
 fn point(random: &mut Random, plain: &Plain) -> (u32, u32) {
     let (period, jitter) = (plain.own().period, plain.task().jitter);
     let field = |number: i64| number.clamp(0, u32::MAX as i64) as u32;
@@ -372,12 +394,14 @@ fn point(random: &mut Random, plain: &Plain) -> (u32, u32) {
     };
     let t = field(t);
     let around = (t as i64 + jitter) / period + 1;
-    let k = match random.within(1, 12) {
+    let past_32_bits = ((1 << 32) * random.within(1, 4) + period - 1) / period + 1;
+    let k = match random.within(1, 13) {
         1 => 0,
         2 | 3 => 1,
         4 | 5 => random.within(2, 5),
         6 => random.pick(&[u32::MAX as i64, u32::MAX as i64 - 1, 1 << 31]),
         7 => random.next() as u32 as i64,
+        8 => past_32_bits,
         _ => around + random.within(-1, 1),
     };
     (field(k), t)

@@ -366,7 +366,17 @@ fn every_situation_comes_in_the_cases() {
             _ => "t",
         };
         see(name);
+        let low = |number: i64| number & u32::MAX as i64;
+        if low(plain.workload(&plain.others(), 1)) < plain.workload(&plain.others(), 1) {
+            see("workload above 32 bits");
+        }
         if k > 0 && t <= Table::HORIZON {
+            if approximation(period, jitter, plain.time(), k, t) > u32::MAX as i64 {
+                see("approximation above 32 bits");
+            }
+            if low((k - 1) * period) < t + jitter && is_exact(period, jitter, k, t) {
+                see("exact, but not by 32 bits of the edge");
+            }
             let beside = t - edge;
             if beside.abs() <= 1 {
                 see(&format!("edge {beside}"));
@@ -375,13 +385,12 @@ fn every_situation_comes_in_the_cases() {
             see(&format!("k and (t + J)/T + 1 {:?}", k.cmp(&((t + jitter) / period + 1))));
         }
     }
-    let rare =
-        ["meets H", "meets H + 1", "refused 3", "refused 4", "refused 5", "refused 6", "refused 10", "refused 11"];
     for (name, count) in &seen {
-        let least = if rare.contains(&name.as_str()) { 5 } else { 20 };
+        let is_rare = name.starts_with("refused") || name.starts_with("meets H");
+        let least = if is_rare { 5 } else { 20 };
         assert!(*count >= least, "{name}: {seen:?}");
     }
-    assert_eq!(seen.len(), 55, "{seen:?}");
+    assert_eq!(seen.len(), 58, "{seen:?}");
 }
 
 /// No t from 1 on meets the workload before this one: the steps of a search that jumps as far as the workload says.
