@@ -9,6 +9,8 @@ mod legal;
 mod many;
 mod papers;
 mod plain;
+mod plain_cases;
+mod plain_text;
 mod progress;
 mod refusals;
 mod who;
@@ -28,6 +30,12 @@ fn task(offset: i64, times: &[i64], priority: i64) -> Task {
 
 fn transaction(period: i64, tasks: Vec<Task>) -> Transaction {
     Transaction { period, modes: tasks[0].times.len(), tasks }
+}
+
+/// A transaction of one task that starts at 0: period, jitter, blocking, time and priority.
+fn one(period: i64, jitter: i64, blocking: i64, time: i64, priority: i64) -> Transaction {
+    let deadline = 67_108_863;
+    transaction(period, vec![Task { jitter, blocking, deadline, ..task(0, &[time], priority) }])
 }
 
 fn alone(task: Task) -> Table {

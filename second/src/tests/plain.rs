@@ -1,23 +1,13 @@
 //! Request 7 of document 02: the plain jitter analysis, its approximation, and what is promised of both.
 
 use super::*;
-use crate::answer::{answered, plain};
-use crate::desk::plain::{explained, judged, several, Judged};
-use crate::desk::Text;
+use crate::answer::{plain, PROGRAM_BUDGET};
 use crate::draft;
-use crate::generate::plain::{asked, image, rivals_demand, table, Aimed, PlainKind, KINDS};
-use crate::image::{read, Refusal};
-use crate::plain::{approximation, is_exact, request, Plain};
+use crate::generate::plain::{table, Aimed, PlainKind, KINDS};
+use crate::image::Refusal;
+use crate::plain::{approximation, request, Plain};
 use crate::random::Random;
-use crate::stream::{self, Asked, Question};
-use std::cmp::Ordering;
 use std::collections::BTreeMap;
-
-/// A transaction of one task that starts at 0: period, jitter, blocking, time and priority.
-fn one(period: i64, jitter: i64, blocking: i64, time: i64, priority: i64) -> Transaction {
-    let deadline = 67_108_863;
-    transaction(period, vec![Task { jitter, blocking, deadline, ..task(0, &[time], priority) }])
-}
 
 fn response(table: &Table, number: usize) -> Result<i64, u32> {
     Plain::of(table, number).and_then(|plain| plain.response()).map_err(|refusal| refusal.number)
@@ -180,31 +170,6 @@ fn refusals_in_their_order() {
     assert_eq!(both(&many, 0, (1 << 24) + 1, 1), [Ok(7), Ok(7 * 256)]);
 }
 
-/// Several modes alone are enough, and a task that does not run in all of them; where a transaction has them plays no part.
-#[test]
-fn several_modes_or_tasks_are_refused_wherever_they_are() {
-    let plain = vec![one(10, 0, 0, 1, 5); 3];
-    for v in 0..3 {
-        for tasks in [vec![task(0, &[1, 0], 5)], vec![task(0, &[1], 5); 2], vec![task(0, &[1, 1], 5); 3]] {
-            let mut transactions = plain.clone();
-            let told = (tasks.len(), tasks[0].times.len());
-            transactions[v] = transaction(10, tasks);
-            // A further one behind is not the first.
-            transactions.push(transaction(10, vec![task(0, &[1, 2], 5); 4]));
-            let table = Table { frame: 10, transactions };
-            assert_eq!(response(&table, 2), Err(31));
-            let words = format!(
-                "table refused (31): transaction {v} has several tasks or modes (tasks {}, modes {})\n",
-                told.0, told.1
-            );
-            assert_eq!(several(&table), Some(words.clone()));
-            let image = draft::image(&table);
-            assert_eq!(Text::Plain.told(&image, &["explain"]).text, words);
-            assert_eq!(Text::Plain.told(&image, &[]).text, "refused 31 0\n");
-        }
-    }
-}
-
 #[test]
 fn offsets_play_no_part() {
     for index in 0..300 {
@@ -219,11 +184,12 @@ fn offsets_play_no_part() {
 }
 
 /// What is promised of response and bound. The response is searched up to H if there is a bound, else up to the period. True
-/// if it is at most the period.
+/// if it is at most the period. Then one job is looked at, and both chains are of ticks up to its completion: a budget of two
+/// periods lasts, and so does the program's.
 fn promised(table: &Table, number: usize, budget: u32) -> bool {
     let Transaction { period, tasks, .. } = &table.transactions[number];
     let (offset, jitter) = (tasks[0].offset, tasks[0].jitter);
-    let Cells { code, bound, .. } = cells(&Fixed { table, u: number, a: 0 }, Charging::Imposed, budget);
+    let Cells { code, bound, evaluations, .. } = cells(&Fixed { table, u: number, a: 0 }, Charging::Imposed, budget);
     let bound = matches!(code, 0 | 20).then_some(bound as i64);
     let most = if bound.is_some() { Table::HORIZON } else { *period };
     let response = Plain::of(table, number).unwrap().least(most).map(|t| t + jitter);
@@ -233,6 +199,10 @@ fn promised(table: &Table, number: usize, budget: u32) -> bool {
     let is_up_to_period = response.is_some_and(|response| response <= *period);
     if is_up_to_period && code != 23 {
         assert_eq!(bound, response.map(|response| response + offset), "task {number} of {table:?}");
+    }
+    if is_up_to_period {
+        assert!(evaluations as i64 <= 2 * period && (code != 23 || (budget as i64) < 2 * period));
+        assert!(2 * period < PROGRAM_BUDGET as i64);
     }
     is_up_to_period
 }
@@ -278,231 +248,4 @@ fn the_bound_is_response_and_offset_on_random_tables() {
         }
     }
     assert!(up_to_period.values().all(|&count| count > 30), "{up_to_period:?}");
-}
-
-/// The generator's questions, encoded and read back.
-#[test]
-fn a_stream_of_plain_cases_is_read_as_it_was_written() {
-    let cases: Vec<Asked> = (0..50).map(|index| asked(74, index)).collect();
-    let bytes: Vec<u8> = cases.iter().flat_map(stream::encoded).collect();
-    let mut input = &bytes[..];
-    for case in &cases {
-        assert_eq!(stream::next(&mut input).unwrap().as_ref(), Some(case));
-    }
-    assert_eq!(stream::next(&mut input).unwrap(), None);
-    let image = draft::image(&Table { frame: 10, transactions: vec![one(10, 1, 0, 3, 5)] });
-    let case = Asked { question: Question::Plain { task: 0, k: 0x01020304, t: 5 }, image: image.clone() };
-    let head = [0, 0, 0, 5, 0xC0, image.len() as u8, 0, 1, 2, 3, 4];
-    assert_eq!(stream::encoded(&case), [&head[..], &image].concat());
-    assert_eq!(answered(&case).1, "plain 4\napproximate 30\n");
-    let refused = Asked { question: Question::Plain { task: 1, k: 0, t: 5 }, image };
-    assert_eq!(answered(&refused).1, "refused 13 0\nrefused 13 0\n");
-}
-
-/// The situations that an answer could get wrong come, each of them often.
-#[test]
-fn every_situation_comes_in_the_cases() {
-    let mut seen: BTreeMap<String, u32> = BTreeMap::new();
-    let mut see = |name: &str| *seen.entry(name.into()).or_default() += 1;
-    for index in 0..4000 {
-        let Asked { question, image } = asked(75, index);
-        let Question::Plain { task, k, t } = question else { panic!("a plain question") };
-        let (k, t) = (k as i64, t as i64);
-        let table = match read(&image) {
-            Err(refusal) => {
-                see(&format!("refused {}", refusal.number));
-                continue;
-            }
-            Ok(table) => table,
-        };
-        let plain = match Plain::of(&table, task as usize) {
-            Err(refusal) => {
-                see(&format!("refused {}", refusal.number));
-                continue;
-            }
-            Ok(plain) => plain,
-        };
-        let (period, jitter, frame) = (plain.own().period, plain.task().jitter, table.frame);
-        let by = |what: &str, order: Ordering| format!("{what} {order:?}");
-        see(&by("jitter and period", jitter.cmp(&period)));
-        see(if jitter == 0 { "no jitter" } else { "jitter" });
-        see(if plain.task().blocking == 0 { "no blocking" } else { "blocking" });
-        see(if plain.others().is_empty() { "alone" } else { "others" });
-        let is_equal = |other: &Plain| other.task().priority == plain.task().priority;
-        see(if plain.others().iter().any(is_equal) { "equal priority" } else { "no equal priority" });
-        let rivals = rivals_demand(&Aimed { table: table.clone(), number: task as usize });
-        see(&by("rivals and frame", rivals.cmp(&frame)));
-        if rivals < frame {
-            see(&by("together and frame", (rivals + frame / period * plain.time()).cmp(&frame)));
-        }
-        if let Some(completion) = plain.least(20_000) {
-            let response = completion + jitter;
-            see(&by("response and period", response.cmp(&period)));
-            if (response - period).abs() == 1 {
-                see(&by("response a tick beside period", response.cmp(&period)));
-            }
-        }
-        let past = |at: i64| plain.workload(&plain.others(), at) == at;
-        for (at, name) in [(Table::HORIZON, "meets H"), (Table::HORIZON + 1, "meets H + 1")] {
-            if past(at) && literal_from(&plain, at) {
-                see(name);
-            }
-        }
-        see(if k == 0 {
-            "k 0"
-        } else if k == 1 {
-            "k 1"
-        } else if k > 1 << 30 {
-            "k huge"
-        } else {
-            "k"
-        });
-        let edge = (k - 1) * period - jitter;
-        let name = match t - Table::HORIZON {
-            _ if t == 0 => "t 0",
-            0 => "t H",
-            1 => "t H + 1",
-            2.. => "t huge",
-            _ => "t",
-        };
-        see(name);
-        let low = |number: i64| number & u32::MAX as i64;
-        if low(plain.workload(&plain.others(), 1)) < plain.workload(&plain.others(), 1) {
-            see("workload above 32 bits");
-        }
-        if k > 0 && t <= Table::HORIZON {
-            if approximation(period, jitter, plain.time(), k, t) > u32::MAX as i64 {
-                see("approximation above 32 bits");
-            }
-            if low((k - 1) * period) < t + jitter && is_exact(period, jitter, k, t) {
-                see("exact, but not by 32 bits of the edge");
-            }
-            let beside = t - edge;
-            if beside.abs() <= 1 {
-                see(&format!("edge {beside}"));
-            }
-            see(if is_exact(period, jitter, k, t) { "exact" } else { "linear" });
-            see(&format!("k and (t + J)/T + 1 {:?}", k.cmp(&((t + jitter) / period + 1))));
-        }
-    }
-    for (name, count) in &seen {
-        let is_rare = name.starts_with("refused") || name.starts_with("meets H");
-        let least = if is_rare { 5 } else { 20 };
-        assert!(*count >= least, "{name}: {seen:?}");
-    }
-    assert_eq!(seen.len(), 58, "{seen:?}");
-}
-
-/// No t from 1 on meets the workload before this one: the steps of a search that jumps as far as the workload says.
-fn literal_from(plain: &Plain, at: i64) -> bool {
-    let others = plain.others();
-    let mut t = 1;
-    while t < at {
-        let workload = plain.workload(&others, t);
-        if workload <= t {
-            return false;
-        }
-        t = workload;
-    }
-    t == at
-}
-
-#[test]
-fn tables_of_each_kind_are_read_as_they_were_written() {
-    for &kind in KINDS {
-        for index in 0..200 {
-            let Aimed { table, .. } = table(&mut Random::of(76, index), kind);
-            assert_eq!(read(&draft::image(&table)).as_ref(), Ok(&table), "{kind:?}");
-        }
-    }
-}
-
-fn told(table: &Table, words: &[&str]) -> String {
-    Text::Plain.told(&draft::image(table), words).text
-}
-
-const HEADER: &str = "task     period     offset   response      bound\n";
-
-#[test]
-fn each_task_is_listed_with_both() {
-    let mut table =
-        Table { frame: 12, transactions: vec![one(6, 0, 0, 3, 9), one(4, 0, 0, 2, 1), one(12, 0, 0, 1, 0)] };
-    table.transactions[0].tasks[0].offset = 1234;
-    let listed = "task code bound number response\n0 0 1237 0 3\n1 0 6 0 5\n2 21 0 32 0\n";
-    assert_eq!(told(&table, &[]), listed);
-    let words = "   0          6      1,234          3      1,237  agree: the bound is response + offset
-   1          4          0          5          6  1 above response + offset: the response is above the period, so jobs \
-may queue, and it is that of the first alone
-   2         12          0          -          -  no response: no completion up to the horizon of 16,777,215 ticks
-3 tasks: 1 agree, 1 above, 1 not to compare\n";
-    assert_eq!(told(&table, &["explain"]), [HEADER, words].concat());
-}
-
-#[test]
-fn a_table_where_all_agree() {
-    let one_task = Table { frame: 10, transactions: vec![one(10, 0, 0, 10, 1)] };
-    let line = "   0         10          0         10         10  agree: the bound is response + offset\n";
-    assert_eq!(told(&one_task, &["explain"]), [HEADER, line, "1 task: all agree\n"].concat());
-    let above = Table { frame: 10, transactions: vec![one(10, 7, 0, 5, 1), one(10, 0, 0, 2, 2)] };
-    let lines = "   0         10          0         14         14  agree, though the response is above the period
-   1         10          0          2          2  agree: the bound is response + offset
-2 tasks: all agree\n";
-    assert_eq!(told(&above, &["explain"]), [HEADER, lines].concat());
-}
-
-/// Without bounds, and one that spends the budget, on both sides of its period: as if a hundred million had been spent.
-#[test]
-fn tasks_without_a_bound_in_words() {
-    let table = Table { frame: 10, transactions: vec![one(10, 0, 0, 11, 1)] };
-    let words =
-        "   0         10          0         11          -  no bound: it and the tasks that can delay it may want more \
-than the major frame holds; the response is above the period, and is that of one job alone
-1 task: 1 not to compare\n";
-    assert_eq!(told(&table, &["explain"]), [HEADER, words].concat());
-    let table = Table { frame: 10, transactions: vec![one(10, 0, 1, 10, 1)] };
-    let words =
-        "   0         10          0         11          -  no bound: no busy time up to the horizon of 16,777,215 \
-ticks was found to end; the response is above the period, and is that of one job alone
-1 task: 1 not to compare\n";
-    assert_eq!(told(&table, &["explain"]), [HEADER, words].concat());
-    let spent = |response: i64| Judged {
-        number: 127,
-        period: 1000,
-        offset: 16_777_215,
-        response: Some(response),
-        code: 23,
-        bound: None,
-    };
-    let words =
-        " 127      1,000 16,777,215      1,000          -  not decided: 100,000,000 evaluations were not enough; the \
-bound is response + offset where more are
- 127      1,000 16,777,215      1,001          -  not decided: 100,000,000 evaluations were not enough
-2 tasks: 2 not to compare\n";
-    assert_eq!(explained(&[spent(1000), spent(1001)]), [HEADER, words].concat());
-}
-
-/// A refusal of the image is told as the other programs tell it.
-#[test]
-fn a_refused_image_is_told_as_elsewhere() {
-    let mut refusals = BTreeMap::new();
-    for index in 0..400 {
-        let image = image(77, index);
-        let Err(Refusal { number, place }) = read(&image) else { continue };
-        assert_eq!(Text::Plain.told(&image, &[]).text, format!("refused {number} {place}\n"));
-        assert_eq!(Text::Plain.told(&image, &["explain"]).text, Text::Words.told(&image, &[]).text);
-        *refusals.entry(number).or_insert(0) += 1;
-    }
-    assert!(refusals.len() > 9, "{refusals:?}");
-}
-
-/// A budget that does not last leaves the response as it is.
-#[test]
-fn the_response_asks_for_no_budget() {
-    let table = Table { frame: 10, transactions: vec![one(10, 0, 0, 3, 5), one(10, 0, 0, 4, 1)] };
-    let row: Vec<Cells> = (0..2).map(|u| cells(&Fixed { table: &table, u, a: 0 }, Charging::Imposed, 0)).collect();
-    let all = judged(&table, &row);
-    assert_eq!(
-        all.iter().map(|judged| (judged.code, judged.response)).collect::<Vec<_>>(),
-        [(23, Some(3)), (23, Some(7))]
-    );
 }
