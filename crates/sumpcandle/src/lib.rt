@@ -1,7 +1,8 @@
 // What the emulator's host, an editor and the programs call: the cells of every task of an image, the C host's number for one task,
-// who pushed it, and a table read into cells and written from them.
+// who pushed it, a table read into cells and written from them, and the plain analysis beside it.
 // Each function is one call into the crates below, where what it promises is found, or one of theirs, passed on: `parts`, what the bound
-// of one task is made of; `part`, the part of one transaction in it; `charge`, what one transaction charges a task by t.
+// of one task is made of; `part`, the part of one transaction in it; `charge`, what one transaction charges a task by t; `plain`, the
+// response of one task by the plain jitter analysis; `approximate`, the linear approximation of what it requests by t.
 use parts::Charge;
 use parts::Parts;
 use row::Table;
@@ -10,9 +11,12 @@ ghost use Rattle.told.specs.Told.{Fills, Responds};
 ghost use Rattle.editor.specs.Editor.{Takes, Gives};
 ghost use Rattle.parts.specs.Parts.{Makes, ChargesOne, HasPart};
 ghost use Rattle.asked.specs.Asked.{TellsFilled, TellsMade, TellsPart, isWhole};
+ghost use Rattle.beside.specs.Told.{TellsResponse, TellsApproximation};
 pub use answers::charge;
 pub use answers::parts;
 pub use asked::part;
+pub use beside::approximate;
+pub use beside::plain;
 pub use told::Filled;
 pub use told::TaskCells;
 
@@ -103,4 +107,28 @@ pub extern "C" fn sumpcandle_charge(
     ensures { λ r. ⌜ TellsPart (ChargesOne (now (image .entry)) task transaction (isWhole whole) t) (now (cells .entry)) (now (cells .exit)) r ⌝ }
 {
     asked::tell_charge(image, task, transaction, whole, t, cells)
+}
+
+// The plain jitter analysis of one task: its response in ticks. The result is that; for 1 to 11, 13, 14, 31 and 32 that number × 2^32 + its
+// place.
+#[no_mangle]
+pub extern "C" fn sumpcandle_plain(image: &[u8], task: u32) -> u64
+    ensures { λ r. ⌜ TellsResponse (now (image .entry)) task r ⌝ }
+{
+    beside::tell_plain(image, task)
+}
+
+// And the linear approximation of what it requests by t, exact up to k − 1 periods, in T-ths of a tick, into the cell. The result is 0; for 1
+// to 11, 13, 14, 31 and 33 that number × 2^32 + its place, and then the cell stays as it was.
+#[no_mangle]
+pub extern "C" fn sumpcandle_approximate(
+    image: &[u8],
+    task: u32,
+    k: u32,
+    t: u32,
+    cell: &mut [u64; 1],
+) -> u64
+    ensures { λ r. ⌜ TellsApproximation (now (image .entry)) task k t (now (cell .entry)) (now (cell .exit)) r ⌝ }
+{
+    beside::tell_approximate(image, task, k, t, cell)
 }
