@@ -2,3 +2,5 @@ pub mod Fields
 pub mod Read
 pub mod Ways
 pub mod Answered
+pub mod Agree
+pub mod Sample
