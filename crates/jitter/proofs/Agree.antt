@@ -80,12 +80,12 @@ module _ {tab : Table} (kept-tab : Kept tab) (single : Single tab) {u : ℕ} (ow
   -- ---- a response within the period
 
   module _ {t : ℕ} (plain : PlainCompletion tab u t) (within : responseOf tab u t ≤ period tab u) where
-    one-job : ceil (t + jitter tab u 0) (period tab u) ≡ 1
+    pub one-job : ceil (t + jitter tab u 0) (period tab u) ≡ 1
     unfolding responseOf
     one-job = ceil-one T (omega (arith, plain .has .0)) within
 
     -- the task keeps busy until it completes
-    length-alone : BusyLength tab u 0 0 0 t
+    pub length-alone : BusyLength tab u 0 0 0 t
     unfolding workload
     length-alone =
         record {

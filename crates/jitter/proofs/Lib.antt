@@ -9,3 +9,4 @@ pub mod Alone
 pub mod Least
 pub mod Overload
 pub mod Agree
+pub mod Lasts
