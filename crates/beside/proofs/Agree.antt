@@ -3,20 +3,20 @@
 use mathlib.Core.Path.{_≡_, refl, sym, ap, subst, _∙_}
 use mathlib.Core.Logic.{inl, inr}
 use mathlib.Core.List.{List}
-use Prim.Native.Nat.{ℕ, _+_, _≤_, _<_}
-use native.Mathlib.Decide.{decLe}
+use Prim.Native.Nat.{ℕ, _+_, _*_, _≤_, _<_}
 use native.Mathlib.Omega.{arith}
 use lib.ListN.{getD}
 use Rattle.refusals.specs.declared.PlainRefusal.the-variants.{NoCompletion}
 use Rattle.table.specs.Table.{Table, transactions, period, offset, deadline}
 use Rattle.table.specs.Number.{inAll}
 use Rattle.table.specs.Kept.{Kept}
+use Rattle.table.proofs.Ranges.{period-lt}
 use Rattle.format.specs.Said.{tableIn}
 use Rattle.format.proofs.Kept.{kept}
 use Rattle.periods.specs.Charge.{imposed}
 use Rattle.analysis.specs.Bound.{Bound}
 use Rattle.analysis.specs.Answer as definition
-use Rattle.analysis.specs.Answer.{Answers, Cells, cells, codeBy}
+use Rattle.analysis.specs.Answer.{Answers, Cells, cells}
 use Rattle.told.specs.declared.Filled.the-variants as filled
 use Rattle.told.specs.Cells.{listed, codeIn}
 use Rattle.told.specs.Told.{Owed, Written, FillsFrom, Fills}
@@ -28,6 +28,7 @@ use Rattle.jitter.specs.Agree.{Agrees}
 use Rattle.jitter.proofs.Number.{number-single, in-all-single}
 use Rattle.jitter.proofs.Alone.{isTask}
 use Rattle.jitter.proofs.Agree.{agree, not-below, never-bounded}
+use Rattle.jitter.proofs.Lasts.{lasts}
 use Rattle.beside.specs.declared.Response.the-variants as response
 use Rattle.beside.specs.Told.{RespondsFrom, Responds}
 use Rattle.beside.specs.Agree.{boundIn, HasBound, SaysBound}
@@ -52,17 +53,25 @@ module _ {tab : Table} (keeps : Kept tab) (single : Single tab) {budget : ℕ} {
   bound-is =
       ap (λ (l : List ℕ). getD l 1 0) (written-in keeps w there) ∙ ap (λ (c : Cells). c .bound) (owed .is)
 
+  says-bound : {R n : ℕ} {by : definition.Named} → owed .answer ≡ definition.bound R n by → SaysBound after u R D
+  unfolding cells
+  says-bound e =
+      record {
+        code = code-is ∙ ap (λ (x : definition.Answer). cells D x .code) e;
+        bound = bound-is ∙ ap (λ (x : definition.Answer). cells D x .bound) e;
+      }
+
   -- what agrees with a bound says it, unless the budget is spent
   says : {R : ℕ} → Agrees R (owed .answer) → ¬ (IsSpent after u) → SaysBound after u R D
   unfolding cells
-  says {R} agrees free = go (owed .answer) agrees code-is bound-is
+  says {R} agrees free = go (owed .answer) refl agrees
     where
-      go : (x : definition.Answer) → Agrees R x → codeIn after u ≡ cells D x .code → boundIn after u ≡ cells D x .bound → SaysBound after u R D
-      go (definition.bound Q n by) e c b =
-          record { code = c ∙ ap (λ (x : ℕ). codeBy (decLe x D)) e; bound = b ∙ e }
-      go (definition.spent n) e c b = absurd (free c)
-      go definition.overload e c b = absurd e
-      go (definition.beyond n) e c b = absurd e
+      go : (x : definition.Answer) → owed .answer ≡ x → Agrees R x → SaysBound after u R D
+      go (definition.bound Q n by) is e =
+          subst (λ (Q : ℕ). SaysBound after u Q D) e (says-bound is)
+      go (definition.spent n) is e = absurd (free (code-is ∙ ap (λ (x : definition.Answer). cells D x .code) is))
+      go definition.overload is e = absurd e
+      go (definition.beyond n) is e = absurd e
 
   -- a code 0 or 20 tells of a bound, and its cell is that
   bounded : HasBound after u → Bound imposed tab u 0 (boundIn after u)
@@ -103,6 +112,35 @@ cells-agree {image} {task = task} {after = after} (Fills.accepted ok (FillsFrom.
     let short : responseOf tab task t ≤ period tab task = omega (arith, is) in
     let agrees = agree keeps single (owner keeps single w there) done short (owed keeps single w there .answers) in
     subst (λ (R : ℕ). SaysBound after task (R + offset tab task 0) (deadline tab task 0)) (sym is) (says keeps single w there agrees free)
+
+-- A budget that has two evaluations for each tick of the period lasts
+pub cells-last :
+    {image : List ℕ} {budget task n R : ℕ} {before after : List ℕ}
+    → Fills image budget before after (filled.Done n)
+    → Responds image task (response.Of R)
+    → task < n
+    → R ≤ period (tableIn image) task
+    → 2 * period (tableIn image) task ≤ budget
+    → SaysBound after task (R + offset (tableIn image) task 0) (deadline (tableIn image) task 0)
+cells-last {image} {task = task} {after = after} (Fills.accepted ok (FillsFrom.done w)) responds there within enough =
+    let tab = tableIn image in
+    let (t, single, done, is) = completed responds in
+    let keeps = kept image ok in
+    let short : responseOf tab task t ≤ period tab task = omega (arith, is) in
+    let (m, by, answers) = lasts keeps single (owner keeps single w there) done short enough (owed keeps single w there .answers) in
+    subst (λ (R : ℕ). SaysBound after task (R + offset tab task 0) (deadline tab task 0)) (sym is) (says-bound keeps single w there answers)
+
+-- and the programs' budget is such a one for any period
+pub program-agrees :
+    {image : List ℕ} {task n R : ℕ} {before after : List ℕ}
+    → Fills image 100_000_000 before after (filled.Done n)
+    → Responds image task (response.Of R)
+    → task < n
+    → R ≤ period (tableIn image) task
+    → SaysBound after task (R + offset (tableIn image) task 0) (deadline (tableIn image) task 0)
+program-agrees {image} {task} (Fills.accepted ok (FillsFrom.done w)) responds there within =
+    let (t, single, done, is) = completed responds in
+    cells-last (Fills.accepted ok (FillsFrom.done w)) responds there within (omega (arith, period-lt (kept image ok) (owner (kept image ok) single w there)))
 
 -- No bound is below that
 pub cells-not-below :

@@ -1,5 +1,6 @@
 -- Where each transaction has one task and one mode, each rival is its own only candidate: what document 01 sums and takes the greatest
--- of are single charges, and with released charges its demands are those of the plain analysis.
+-- of are single charges, and with released charges its demands are those of the plain analysis. (The computed cases are brought in so
+-- that they are checked first.)
 use mathlib.Core.Path.{_≡_, refl, ap, _∙_, subst}
 use mathlib.Core.Logic.{inl}
 use Prim.Native.Nat.{ℕ, suc, _+_, _*_, _/_, _≤_, _<_}
@@ -22,6 +23,7 @@ use Rattle.analysis.specs.Overload.{counts?, load, mostLoad}
 use Rattle.analysis.specs.Needed.{job}
 use Rattle.analysis.proofs.Choice.{when-yes, when-no, when-le}
 use Rattle.analysis.proofs.Join.{own-job, jobs-by}
+use Rattle.jitter.specs.Cases
 use Rattle.jitter.specs.Request.{request}
 use Rattle.jitter.specs.Plain.{Single, requestOf, rivalRequest, workload}
 use Rattle.jitter.proofs.Sums.{sum-one, most-one, unless-same}

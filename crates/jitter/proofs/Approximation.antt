@@ -1,9 +1,9 @@
 -- The approximation of a request: never below it, never more than C
 -- above, and never above (1 + 1/k) of it. In T-ths of a tick, over any period, jitter and time.
-use mathlib.Core.Path.{_≡_, refl, ap, sym, _∙_}
-use Prim.Native.Nat.{ℕ, zero, suc, _+_, _*_, _-_, _≤_, _<_}
-use native.Mathlib.Nat.{mul-le-mul-right, mul-le-mul-left, mul-right-comm, mul-assoc, mul-comm, mul-add, add-mul, suc-mul, one-mul, le-refl, div-mul-le-self}
-use native.Mathlib.Decide.{decLe, decLt}
+use mathlib.Core.Path.{_≡_, refl, ap}
+use Prim.Native.Nat.{ℕ, suc, _+_, _*_, _-_, _≤_, _<_}
+use native.Mathlib.Nat.{mul-le-mul-right, mul-le-mul-left, mul-right-comm, mul-assoc, mul-comm, mul-add, add-mul, suc-mul, div-mul-le-self}
+use native.Mathlib.Decide.{decLe}
 use native.Mathlib.Omega.{arith}
 use Rattle.periods.specs.Phase.{ceil}
 use Rattle.periods.proofs.Charge.{ceil-gt}

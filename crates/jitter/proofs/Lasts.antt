@@ -95,7 +95,3 @@ module _ {tab : Table} (kept-tab : Kept tab) (single : Single tab) {u : ℕ} (ow
   lasts plain within enough (past free needed l) = absurd (agree kept-tab single owner plain within (past free needed l))
   lasts plain within enough (kept {n = n} {x = by} free needed l b) =
       (n, named tab u by, ap (λ (R : ℕ). bound R n (named tab u by)) (agree kept-tab single owner plain within (kept free needed l b)))
-
-  -- The programs' budget is such a one for any period
-  pub program-lasts : {t : ℕ} → Completion tab u t → responseOf tab u t ≤ period tab u → {budget : ℕ} → 100_000_000 ≤ budget → {x : Answer} → Answers tab u 0 budget x → (n : ℕ) × (by : Named) × (x ≡ bound (responseOf tab u t + offset tab u 0) n by)
-  program-lasts plain within enough answers = lasts plain within (omega (arith, period-lt kept-tab owner)) answers

@@ -1,13 +1,13 @@
 -- A line below what the rivals request, rival by rival: each by its load, from its jitter on, or by what it requests at t. Every
 -- completion from t on is at least where B + C and the line meet t; and where the rivals' load fills the major frame there is none.
-use mathlib.Core.Path.{_≡_, refl, ap, sym, _∙_}
+use mathlib.Core.Path.{_≡_, ap, sym, _∙_}
 use Prim.Native.Nat.{ℕ, zero, suc, _+_, _*_, _-_, _/_, _^_, _≤_, _<_}
-use native.Mathlib.Nat.{le-refl, le-trans, mul-le-mul, mul-le-mul-left, mul-le-mul-right, mul-add, add-mul, mul-assoc, mul-comm, mul-sub, div-add-mod', zero-mul}
+use native.Mathlib.Nat.{le-refl, mul-le-mul, mul-le-mul-left, mul-le-mul-right, mul-add, add-mul, mul-assoc, mul-comm, mul-sub}
 use native.Mathlib.Numerals.{add-one}
 use native.Mathlib.Decide.{ℕ-discrete}
 use native.Mathlib.Omega.{arith}
 use Rattle.table.specs.Sum.{sum}
-use Rattle.table.specs.Table.{Table, IsTask, transactions, period, tasks, jitter, blocking, time}
+use Rattle.table.specs.Table.{Table, transactions, period, jitter, blocking, time}
 use Rattle.table.specs.Kept.{Kept}
 use Rattle.table.proofs.Sum.{sum-next}
 use Rattle.table.proofs.Ranges.{kept-period, jitter-lt}

@@ -1,11 +1,10 @@
 -- Ranges of what the code adds up and multiplies, for a t within the horizon: far below 2 ^ 64.
-use mathlib.Core.Path.{_≡_}
 use Prim.Native.Nat.{ℕ, _+_, _*_, _^_, _/_, _≤_, _<_}
-use native.Mathlib.Nat.{le-trans, le-refl, mul-le-mul, mul-le-mul-left, le-mul-of-pos-right, div-le-self}
+use native.Mathlib.Nat.{le-trans, mul-le-mul, le-mul-of-pos-right, div-le-self}
 use native.Mathlib.Decide.{ℕ-discrete}
 use native.Mathlib.Omega.{arith}
 use Rattle.table.specs.Sum.{sum}
-use Rattle.table.specs.Table.{Table, transactions, transaction, period, tasks, task, jitter, blocking, time}
+use Rattle.table.specs.Table.{Table, transactions, period, tasks, task, jitter, blocking, time}
 use Rattle.table.specs.Limits.{horizon, transactionsMost}
 use Rattle.table.specs.Kept.{Kept}
 use Rattle.table.proofs.Sum.{sum-room, sum-most, sum-grow}

@@ -1,25 +1,23 @@
 -- The workload never falls and is at least 1. So 1 is a sound start, and with a start its workload; a sound start that comes back is the
 -- completion; and where a start is beyond the horizon there is none.
 use mathlib.Core.Path.{_≡_}
-use Prim.Native.Nat.{ℕ, zero, suc, _+_, _≤_, _<_}
+use Prim.Native.Nat.{ℕ, _≤_, _<_}
 use native.Mathlib.Nat.{le-refl, le-trans, le-of-eq, mul-le-mul-right}
 use native.Mathlib.Decide.{decLt, ℕ-discrete}
 use native.Mathlib.Omega.{arith}
-use Rattle.table.specs.Sum.{sum}
 use Rattle.table.specs.Limits.{horizon}
 use Rattle.table.specs.Table.{Table, transactions, time}
 use Rattle.table.specs.Kept.{Kept}
 use Rattle.table.proofs.Sum.{sum-le}
 use Rattle.table.proofs.Ranges.{kept-period}
 use Rattle.periods.proofs.Charge.{ceil-mono}
-use Rattle.analysis.specs.Choice.{Least}
 use Rattle.analysis.specs.Rival.{urgent?}
 use Rattle.analysis.specs.Chain.{Chain, came}
 use Rattle.analysis.specs.Needed.{Beyond}
 use Rattle.analysis.proofs.Choice.{when-mono, unless-mono}
 use Rattle.analysis.proofs.Chain.{came-fixed, came-least, comes}
 use Rattle.jitter.specs.Request.{request}
-use Rattle.jitter.specs.Plain.{Single, requestOf, rivalRequest, workload, Completes, Completion, Never}
+use Rattle.jitter.specs.Plain.{Single, requestOf, rivalRequest, workload, Completion, Never}
 use Rattle.jitter.specs.Start.{Sound}
 use Rattle.jitter.proofs.Alone.{runs-alone}
 

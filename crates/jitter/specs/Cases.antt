@@ -4,7 +4,7 @@ use mathlib.Core.Path.{_≡_, refl}
 use mathlib.Core.List.{[], _∷_, map}
 use Prim.Native.Nat.{ℕ, _+_, _*_, _/_}
 use Rattle.table.specs.Table.{Table}
-use Rattle.table.specs.Sample.{plain, task, transaction, table, lone}
+use Rattle.table.specs.Sample.{task, transaction, table, lone}
 use Rattle.periods.specs.Charge.{imposed}
 use Rattle.analysis.specs.Chain.{came, over}
 use Rattle.analysis.specs.Answer.{bound, overload}

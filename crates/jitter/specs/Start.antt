@@ -2,7 +2,7 @@
 -- believed.
 use mathlib.Core.Path.{_≡_, refl}
 use mathlib.Core.List.{[], _∷_}
-use Prim.Native.Nat.{ℕ, _+_, _*_, _/_, _≤_, _<_, _^_}
+use Prim.Native.Nat.{ℕ, _+_, _*_, _/_, _≤_, _^_}
 use native.Mathlib.Decide.{ℕ-discrete}
 use Rattle.table.specs.Sum.{sum}
 use Rattle.table.specs.Table.{Table, transactions, period, time}

@@ -1,12 +1,11 @@
 -- The image's refusal, or 13, or 31, or the row of its table.
-use mathlib.Core.Path.{_≡_, sym, subst, _∙_}
-use Prim.Native.Nat.{ℕ, _<_}
+use mathlib.Core.Path.{sym, subst, _∙_}
+use Prim.Native.Nat.{_<_}
 use native.Mathlib.Omega.{arith}
 use borrow.Author.Needs.{needs}
 use denote.Ref.{now}
-use Rattle.refusals.specs.declared.Answer.the-variants.{Refused}
 use Rattle.table.specs.Number.{inAll}
-use Rattle.format.specs.Fault.{imageFault, IsAccepted}
+use Rattle.format.specs.Fault.{IsAccepted}
 use Rattle.format.specs.Said.{tableIn}
 use Rattle.jitter.specs.Plain.{Single}
 use Rattle.beside.specs.Lent.{Shows}

@@ -1,5 +1,5 @@
 -- A rival counts with its jobs in a major frame, and any other task with 0.
-use mathlib.Core.Path.{sym, _∙_, subst}
+use mathlib.Core.Path.{sym, subst}
 use native.Mathlib.Omega.{arith}
 use borrow.Author.Needs.{needs}
 use Rattle.table.proofs.Ranges.{kept-period}

@@ -1,6 +1,5 @@
 -- A rival counts with its request, and any other task with 0.
 use mathlib.Core.Path.{sym, _∙_, subst}
-use mathlib.Core.Bool.{Bool}
 use borrow.Author.Needs.{needs}
 use Rattle.jitter.specs.Plain.{rivalRequest}
 use Rattle.beside.specs.Lent.{Shows}
