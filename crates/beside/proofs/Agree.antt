@@ -24,7 +24,7 @@ use Rattle.told.specs.Budget.{IsSpent}
 use Rattle.told.proofs.Told.{owed-to}
 use Rattle.told.proofs.Agree.{written-in, written-code}
 use Rattle.jitter.specs.Plain.{Single, Completion, responseOf, Never}
-use Rattle.jitter.specs.Agree.{Agrees}
+use Rattle.jitter.specs.Agree.{InPeriod, Agrees}
 use Rattle.jitter.proofs.Number.{number-single, in-all-single}
 use Rattle.jitter.proofs.Alone.{isTask}
 use Rattle.jitter.proofs.Agree.{agree, not-below, never-bounded}
@@ -109,7 +109,7 @@ cells-agree {image} {task = task} {after = after} (Fills.accepted ok (FillsFrom.
     let tab = tableIn image in
     let (t, single, done, is) = completed responds in
     let keeps = kept image ok in
-    let short : responseOf tab task t ≤ period tab task = omega (arith, is) in
+    let short : InPeriod tab task t = omega (arith, is) in
     let agrees = agree keeps single (owner keeps single w there) done short (owed keeps single w there .answers) in
     subst (λ (R : ℕ). SaysBound after task (R + offset tab task 0) (deadline tab task 0)) (sym is) (says keeps single w there agrees free)
 
@@ -126,7 +126,7 @@ cells-last {image} {task = task} {after = after} (Fills.accepted ok (FillsFrom.d
     let tab = tableIn image in
     let (t, single, done, is) = completed responds in
     let keeps = kept image ok in
-    let short : responseOf tab task t ≤ period tab task = omega (arith, is) in
+    let short : InPeriod tab task t = omega (arith, is) in
     let (m, by, answers) = lasts keeps single (owner keeps single w there) done short enough (owed keeps single w there .answers) in
     subst (λ (R : ℕ). SaysBound after task (R + offset tab task 0) (deadline tab task 0)) (sym is) (says-bound keeps single w there answers)
 

@@ -26,7 +26,7 @@ use Rattle.analysis.proofs.Response.{Queued, queued-response, response-queued, 
 use Rattle.analysis.proofs.Greatest.{bound-exists}
 use Rattle.analysis.proofs.Answer.{outcome-past}
 use Rattle.jitter.specs.Plain.{Single, workload, Completion as PlainCompletion, responseOf, Never}
-use Rattle.jitter.specs.Agree.{Agrees}
+use Rattle.jitter.specs.Agree.{InPeriod, Agrees}
 use Rattle.jitter.proofs.Ceil.{ceil-one}
 use Rattle.jitter.proofs.Alone.{isTask, setting-alone, setting-only, jobs-alone, busy-alone}
 use Rattle.jitter.proofs.Least.{first-completes, first-completion}
@@ -79,7 +79,7 @@ module _ {tab : Table} (kept-tab : Kept tab) (single : Single tab) {u : ℕ} (ow
 
   -- ---- a response within the period
 
-  module _ {t : ℕ} (plain : PlainCompletion tab u t) (within : responseOf tab u t ≤ period tab u) where
+  module _ {t : ℕ} (plain : PlainCompletion tab u t) (within : InPeriod tab u t) where
     pub one-job : ceil (t + jitter tab u 0) (period tab u) ≡ 1
     unfolding responseOf
     one-job = ceil-one T (omega (arith, plain .has .0)) within
@@ -123,7 +123,7 @@ module _ {tab : Table} (kept-tab : Kept tab) (single : Single tab) {u : ℕ} (ow
         subst (Bound imposed tab u 0) (response-alone (x .setting) (x .response)) bound
 
   -- With a response within the period document 01 gives neither 21 nor 22, and its bound is the plain response and the offset
-  pub agree : {t : ℕ} → PlainCompletion tab u t → responseOf tab u t ≤ period tab u → {budget : ℕ} {x : Answer} → Answers tab u 0 budget x → Agrees (responseOf tab u t + offset tab u 0) x
+  pub agree : {t : ℕ} → PlainCompletion tab u t → InPeriod tab u t → {budget : ℕ} {x : Answer} → Answers tab u 0 budget x → Agrees (responseOf tab u t + offset tab u 0) x
   unfolding responseOf
   agree plain within (overloaded over) = not-overloaded kept-tab single owner (plain .has) (omega (arith, within)) over
   agree plain within (short free needed l) = tt

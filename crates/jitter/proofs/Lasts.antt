@@ -20,6 +20,7 @@ use Rattle.analysis.proofs.Choice.{least-unique}
 use Rattle.analysis.proofs.Join.{jobs-to-job}
 use Rattle.analysis.proofs.Charges.{imposed-fair, demand-grows, start-below, busy-rises, busy-some}
 use Rattle.analysis.proofs.Turn.{LengthChain, busy-length, busy-past, job-completion}
+use Rattle.jitter.specs.Agree.{InPeriod}
 use Rattle.jitter.specs.Plain.{Single, Completion, responseOf}
 use Rattle.jitter.proofs.Alone.{isTask, runs-alone, setting-alone, jobs-alone}
 use Rattle.jitter.proofs.Least.{first-completion}
@@ -56,7 +57,7 @@ module _ {tab : Table} (kept-tab : Kept tab) (single : Single tab) {u : ℕ} (ow
 
   -- ---- its evaluations
 
-  module _ {t : ℕ} (plain : Completion tab u t) (within : responseOf tab u t ≤ period tab u) where
+  module _ {t : ℕ} (plain : Completion tab u t) (within : InPeriod tab u t) where
     length-evaluations : {n L : ℕ} → LengthChain tab u 0 0 0 n (came L) → (L ≡ t) × (n ≤ t)
     length-evaluations chain =
         let at = least-unique (busy-length kept-tab itself setting chain) (length-alone kept-tab single owner plain within) in
@@ -87,7 +88,7 @@ module _ {tab : Table} (kept-tab : Kept tab) (single : Single tab) {u : ℕ} (ow
         turn-evaluations (subst (λ (order : List Turn). Needed tab u 0 order n o) walk-alone needed)
 
   -- So with such a budget document 01 answers the bound, which is the plain response and the offset
-  pub lasts : {t : ℕ} → Completion tab u t → responseOf tab u t ≤ period tab u → {budget : ℕ} → 2 * period tab u ≤ budget → {x : Answer} → Answers tab u 0 budget x → (n : ℕ) × (by : Named) × (x ≡ bound (responseOf tab u t + offset tab u 0) n by)
+  pub lasts : {t : ℕ} → Completion tab u t → InPeriod tab u t → {budget : ℕ} → 2 * period tab u ≤ budget → {x : Answer} → Answers tab u 0 budget x → (n : ℕ) × (by : Named) × (x ≡ bound (responseOf tab u t + offset tab u 0) n by)
   unfolding responseOf
   lasts plain within {budget} enough (overloaded over) =
       absurd (agree kept-tab single owner plain within {budget = budget} (overloaded over))

@@ -84,6 +84,11 @@ too-long-overload : answer imposed (alone 10 0 0 0 11 1) 0 0 100 ≡ overload
 unfolding computing
 too-long-overload = refl
 
+-- so does T 10, C 10, B 1, which passes the horizon in document 01's unmarked case (crate worked)
+too-full : plainly (alone 10 0 0 1 10 1) 0 ≡ 11
+unfolding computing
+too-full = refl
+
 -- and T 4, C 2 under T 6, C 3 completes plainly at 5, but the second queued job has a bound of 6
 queued : plainly (two 4 0 0 0 2 1 6 0 0 0 3 2) 0 ≡ 5
 unfolding computing
