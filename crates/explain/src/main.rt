@@ -393,6 +393,7 @@ fn main() {
             all: true,
             colour: true,
             aligned: false,
+            explain: false,
         },
         &mut image,
     );

@@ -64,6 +64,7 @@ fn main() {
             all: false,
             colour: false,
             aligned: false,
+            explain: false,
         },
         &mut image,
     );

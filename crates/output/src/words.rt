@@ -11,6 +11,7 @@ pub struct Words {
     pub all: bool,
     pub colour: bool,
     pub aligned: bool,
+    pub explain: bool,
 }
 
 pub(crate) enum Asked {
@@ -40,6 +41,7 @@ fn word(text: &[u8]) -> Words {
         all: same(text, b"all"),
         colour: same(text, b"colour"),
         aligned: same(text, b"aligned"),
+        explain: same(text, b"explain"),
     }
 }
 
@@ -74,6 +76,7 @@ fn common(a: Words, b: Words) -> bool {
         | (a.all & b.all)
         | (a.colour & b.colour)
         | (a.aligned & b.aligned)
+        | (a.explain & b.explain)
 }
 
 fn joined(a: Words, b: Words) -> Words {
@@ -83,6 +86,7 @@ fn joined(a: Words, b: Words) -> Words {
         all: a.all | b.all,
         colour: a.colour | b.colour,
         aligned: a.aligned | b.aligned,
+        explain: a.explain | b.explain,
     }
 }
 
@@ -94,6 +98,7 @@ pub(crate) fn given(name: &[u8], known: Words) -> Asked {
         all: false,
         colour: false,
         aligned: false,
+        explain: false,
     };
     let count = os::arg_count();
     let mut i: usize = 1;

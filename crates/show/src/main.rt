@@ -79,6 +79,7 @@ fn main() {
             all: false,
             colour: false,
             aligned: true,
+            explain: false,
         },
         &mut image,
     );

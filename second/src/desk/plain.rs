@@ -110,11 +110,7 @@ impl Judged {
             (_, _, 22) => {
                 format!("no bound: no busy time up to the horizon of {horizon} ticks was found to end{alone}")
             }
-            (_, _, 23) => {
-                let spent = format!("not decided: {} evaluations were not enough", number(PROGRAM_BUDGET as i64));
-                let more = "; the bound is response + offset where more are";
-                spent + if self.is_above_period() { "" } else { more }
-            }
+            (_, _, 23) => format!("not decided: {} evaluations were not enough", number(PROGRAM_BUDGET as i64)),
             (_, _, code) => format!("a code that is not known here: {code}"),
         }
     }

@@ -42,7 +42,7 @@ fn a_table_where_all_agree() {
     assert_eq!(told(&above, &["explain"]), [HEADER, lines].concat());
 }
 
-/// Without bounds, and one that spends the budget, on both sides of its period: as if a hundred million had been spent.
+/// Without bounds, and one that spends the budget: as if a hundred million had been spent.
 #[test]
 fn tasks_without_a_bound_in_words() {
     let table = Table { frame: 10, transactions: vec![one(10, 0, 0, 11, 1)] };
@@ -57,20 +57,10 @@ than the major frame holds; the response is above the period, and is that of one
 ticks was found to end; the response is above the period, and is that of one job alone
 1 task: 1 not to compare\n";
     assert_eq!(told(&table, &["explain"]), [HEADER, words].concat());
-    let spent = |response: i64| Judged {
-        number: 127,
-        period: 1000,
-        offset: 16_777_215,
-        response: Some(response),
-        code: 23,
-        bound: None,
-    };
-    let words =
-        " 127      1,000 16,777,215      1,000          -  not decided: 100,000,000 evaluations were not enough; the \
-bound is response + offset where more are
- 127      1,000 16,777,215      1,001          -  not decided: 100,000,000 evaluations were not enough
-2 tasks: 2 not to compare\n";
-    assert_eq!(explained(&[spent(1000), spent(1001)]), [HEADER, words].concat());
+    let spent = Judged { number: 127, period: 1000, offset: 16_777_215, response: Some(1001), code: 23, bound: None };
+    let words = " 127      1,000 16,777,215      1,001          -  not decided: 100,000,000 evaluations were not enough
+1 task: 1 not to compare\n";
+    assert_eq!(explained(&[spent]), [HEADER, words].concat());
 }
 
 /// Several modes alone are enough, and a task that does not run in all of them; where a transaction has them plays no part.
