@@ -44,6 +44,22 @@ fn every_sample_lists_as_expected() {
     }
 }
 
+/// A sample without plain responses is refused, as in its listing or else with 31.
+#[test]
+fn every_sample_has_its_plain_responses() {
+    let mut with_responses = 0;
+    for name in samples() {
+        let file = top().join(format!("samples/{name}.plain"));
+        with_responses += file.exists() as u32;
+        let text = match expected(&name) {
+            refused if refused.starts_with("refused") => refused,
+            _ => read_to_string(file).unwrap_or("refused 31 0\n".into()),
+        };
+        assert_eq!(printed("plain", &image(&name)), text, "{name}");
+    }
+    assert_eq!(with_responses, 13);
+}
+
 /// The lines of every sample under a budget, task by task, as they stand behind the task's number in its listing; none of a
 /// refused image.
 fn lines_under(budget: u32) -> Vec<Vec<String>> {
@@ -102,6 +118,8 @@ const FIFTH: [&str; 4] =
     ["just-enough", "refused-14-below-offset", "refused-14-longest-mode", "refused-14-one-tick-short"];
 /// And those that came with the sixth, or had 23 before it.
 const SIXTH: [&str; 4] = ["backlog", "not-decided", "past-horizon", "past-horizon-together"];
+/// And those that came with the seventh.
+const SEVENTH: [&str; 4] = ["plain-full", "plain-held-back", "plain-horizon", "plain-offsets"];
 
 /// Cases that were stored before the fourth request, and how many tasks a table had at most.
 const STORED: usize = 3000;
@@ -113,7 +131,7 @@ const TASKS: usize = 64;
 #[test]
 fn the_first_three_cells_are_what_they_were() {
     let mut listings = String::new();
-    let is_new = |name: &&String| [&SECOND[..], &FOURTH, &FIFTH, &SIXTH].concat().contains(&name.as_str());
+    let is_new = |name: &&String| [&SECOND[..], &FOURTH, &FIFTH, &SIXTH, &SEVENTH].concat().contains(&name.as_str());
     for name in samples().iter().filter(|name| !is_new(name)) {
         for line in expected(name).lines() {
             listings += &line.split(' ').take(4).collect::<Vec<_>>().join(" ");
