@@ -1,8 +1,8 @@
 /* How many bytes of stack one call of a function of sumpcandle.h takes: they are called on a stack of a known pattern, and so
    is a function that does nothing; the difference of what the two leave changed is printed.
 
-   stack FILE...    asks for every task of each image and who pushed it, reads the image into cells and writes these, and prints the
-                    greatest; status 1 where it is above SUMPCANDLE_STACK */
+   stack FILE...    asks for every task of each image, who pushed it, its plain response and the approximation, reads the image into
+                    cells and writes these, and prints the greatest; status 1 where it is above SUMPCANDLE_STACK */
 
 #define _POSIX_C_SOURCE 200809L
 
@@ -20,6 +20,7 @@ static uint8_t image[ROOM], written[SUMPCANDLE_LONGEST];
 static uint32_t cells[SUMPCANDLE_TABLE_CELLS];
 static int64_t parts[SUMPCANDLE_PARTS_CELLS];
 static uint64_t charge[SUMPCANDLE_CHARGE_CELLS];
+static uint64_t approximation;
 static size_t length;
 
 static void *nothing(void *task) { return task; }
@@ -30,6 +31,8 @@ static void *asks(void *task) {
             break;
         }
         sumpcandle_parts(image, length, k, BUDGET, parts);
+        sumpcandle_plain(image, length, k);
+        sumpcandle_approximate(image, length, k, 1, BUDGET, &approximation);
         /* one of the two transactions is not the task's own */
         for (uint32_t i = 0; i < 2; i++) {
             sumpcandle_part(image, length, k, BUDGET, i, charge);

@@ -1,13 +1,15 @@
 /* Answers a stream of cases by the C functions, so that the second program can compare them: second/README.md describes the stream. Each
    case is a budget with an image, asked for the cells of its tasks or also for what their bounds are made of; or a t with a task, a
-   transaction and an image, asked for a charge. */
+   transaction and an image, asked for a charge; or a t with a task, a k and an image, asked for the plain response and the approximation. */
 
 #include <inttypes.h>
 #include <stdio.h>
 
 #include "sumpcandle.h"
 
-enum { CELLS, PARTS, CHARGE };
+enum { CELLS, PARTS, CHARGE, PLAIN };
+/* bytes between a case's head and its image */
+static const size_t between[] = {[CHARGE] = 3, [PLAIN] = 5};
 enum { ROOM = 1 << 14, LENGTH = ROOM - 1 };
 
 static uint8_t image[ROOM];
@@ -78,15 +80,34 @@ static void print_parts(uint32_t budget) {
     }
 }
 
+static void print_plain(uint32_t task, uint32_t k, uint32_t t) {
+    uint64_t answer = sumpcandle_plain(image, length, task);
+    if (is_given(answer)) {
+        printf("plain %" PRIu32 "\n", sumpcandle_value(answer));
+    }
+    /* above any approximation; a refusal leaves the cell, and no answer writes behind it */
+    const uint64_t untouched = UINT64_MAX;
+    uint64_t cells[2] = {untouched, untouched};
+    answer = sumpcandle_approximate(image, length, task, k, t, cells);
+    if (is_given(answer)) {
+        printf("approximate %" PRIu64 "\n", cells[0]);
+    }
+    if ((answer != 0) != (cells[0] == untouched) || cells[1] != untouched) {
+        puts("the answer and the cell are not as the header says");
+    }
+}
+
 int main(void) {
-    uint8_t head[6], asked[3] = {0, 0, 0};
+    uint8_t head[6], asked[5] = {0};
     while (take(head, sizeof head)) {
         uint32_t number = number_of(head, 4), kind = head[4] >> 6;
         length = number_of(head + 4, 2) & LENGTH;
-        if ((kind == CHARGE && !take(asked, sizeof asked)) || !take(image, length)) {
+        if (!take(asked, between[kind]) || !take(image, length)) {
             break;
         }
-        if (kind == CHARGE) {
+        if (kind == PLAIN) {
+            print_plain(asked[0], number_of(asked + 1, 4), number);
+        } else if (kind == CHARGE) {
             uint64_t charge[SUMPCANDLE_CHARGE_CELLS];
             uint64_t answer = sumpcandle_charge(image, length, asked[0], asked[1], asked[2], number, charge);
             if (is_given(answer)) {

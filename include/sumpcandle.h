@@ -1,7 +1,8 @@
-/* Sumpcandle for a host in C. Seven calls: sumpcandle_response answers for one task of a bit-packed task table, the image,
-   with its worst-case response bound; sumpcandle_cells for every task, with who gave its bound; sumpcandle_parts, sumpcandle_part and sumpcandle_charge say who pushed the task: what its
-   bound is made of, and who charged it; sumpcandle_read gives the table of an image as a row of numbers, the cells;
-   sumpcandle_write makes the image of a table in cells.
+/* Sumpcandle for a host in C. Nine calls: sumpcandle_response answers for one task of a bit-packed task table, the image,
+   with its worst-case response bound; sumpcandle_cells for every task, with who gave its bound; sumpcandle_parts, sumpcandle_part and
+   sumpcandle_charge say who pushed the task: what its bound is made of, and who charged it; sumpcandle_plain gives its response by the
+   plain jitter analysis, and sumpcandle_approximate a line above what it requests; sumpcandle_read gives the table of an image as a row
+   of numbers, the cells; sumpcandle_write makes the image of a table in cells.
 
    For each of them the caller owes: the pointers are never NULL, also where `length` is 0, and point to as much memory as
    the call names; image, cells and buffer of one call do not overlap; during the call nobody else writes them, nor reads what
@@ -80,6 +81,36 @@ uint64_t sumpcandle_part(const uint8_t *image, size_t length, uint32_t task, uin
    bound, and no evaluation is made. */
 uint64_t sumpcandle_charge(const uint8_t *image, size_t length, uint32_t task, uint32_t transaction, uint32_t whole, uint32_t t,
                            uint64_t *cells);
+
+/* The response of a task by the plain jitter analysis, for a table with one task and one mode in each transaction: completion + jitter,
+   where the completion is the least t from 1 to 16,777,215 with
+
+       t = B + C + the sum over every other task of at least its priority of ceil((t + J) / T) * C
+
+   Upper 32 bits: 0, or a refusal: of the image, 1 to 11 or 14; then 13; then SUMPCANDLE_NOT_SINGLE; then SUMPCANDLE_NO_COMPLETION. Lower 32
+   bits: with 0 the response in ticks, from a job's arrival to its finish; with a refusal of the image its place, a bit position; else 0.
+   The response may pass 16,777,215; it is at most 33,554,430.
+
+   Offsets play no part in it. Where it is at most the task's period, the bound of sumpcandle_response is this response plus the offset,
+   if the budget lasts. Where it is above, it is that of the first job alone, and others may be queued behind: the bound may be greater,
+   or there may be none, and only a bound holds for every job. A bound is never below response + offset, and with
+   SUMPCANDLE_NO_COMPLETION there is none.
+
+   `image` points to `length` bytes. There is no budget: the completion is searched for from 1 upwards, by steps that look at every
+   transaction, until it is found or 16,777,215 is passed. A step goes at least a tick further, and mostly much further: in trials with
+   processors that were nearly full the longest search had some 10,000 of them, which is not proved. */
+uint64_t sumpcandle_plain(const uint8_t *image, size_t length, uint32_t task);
+
+/* The linear approximation of what a task of such a table requests by t, which is ceil((t + J) / T) * C, into a cell. It is exact up to
+   t = (k - 1) * T - J, and C + (t + J) * C / T beyond. So that it is a whole number it is given in T-ths of a tick: divided by the
+   task's period T it is in ticks, never below what is requested, never more than C above, and never above 1 + 1 / k times it.
+
+   Upper 32 bits: 0, or a refusal: of the image, 1 to 11 or 14; then 13; then SUMPCANDLE_NOT_SINGLE; then SUMPCANDLE_OUT_OF_RANGE. Lower 32
+   bits: with a refusal of the image its place, a bit position; else 0. With 0 the cell is written. With a refusal it stays as it was.
+
+   `k` is at least 1, `t` from 0 to 16,777,215. `image` points to `length` bytes, `cell` to one cell, at an address that is a multiple of
+   8. No search is made. */
+uint64_t sumpcandle_approximate(const uint8_t *image, size_t length, uint32_t task, uint32_t k, uint32_t t, uint64_t *cell);
 
 /* The table of an image, into cells.
 
@@ -233,9 +264,9 @@ enum {
     SUMPCANDLE_BUDGET_SPENT = 23  /* not decided: one more evaluation was due */
 };
 
-/* Refusals: the first fault of the image, or of the table to be written; or no such task. 2 to 9 and 14 are the same in an image
-   and in a table, at the same place. 14 is looked for behind a task's last time, and its place is that of the task's deadline: so it
-   comes behind any other fault of that task, and before any of a later one. */
+/* Refusals: the first fault of the image, or of the table to be written; or no such task; or that the plain analysis has no answer. 2 to 9
+   and 14 are the same in an image and in a table, at the same place. 14 is looked for behind a task's last time, and its place is that of
+   the task's deadline: so it comes behind any other fault of that task, and before any of a later one. */
 enum {
     SUMPCANDLE_CUT = 1,               /* the image ends inside a field */
     SUMPCANDLE_EDITION = 2,           /* edition is not 1 */
@@ -252,13 +283,16 @@ enum {
     SUMPCANDLE_NO_TASK = 13,          /* the image is good and has no task of that number */
     SUMPCANDLE_DEADLINE_SHORT = 14,   /* a deadline below the task's offset plus its greatest time: nobody could keep it */
     SUMPCANDLE_TOO_LARGE = 29,        /* a number of the table is too large for its field */
-    SUMPCANDLE_BUFFER_SHORT = 30      /* the table is good, and its image is longer than the buffer */
+    SUMPCANDLE_BUFFER_SHORT = 30,     /* the table is good, and its image is longer than the buffer */
+    SUMPCANDLE_NOT_SINGLE = 31,       /* the image is good and has that task, but some transaction has several tasks or modes */
+    SUMPCANDLE_NO_COMPLETION = 32,    /* of such a table: the task has no plain completion up to 16,777,215 */
+    SUMPCANDLE_OUT_OF_RANGE = 33      /* of such a table: k is 0, or t above 16,777,215 */
 };
 
 /* The upper half of an answer: a code or a refusal, or 0. */
 static inline uint32_t sumpcandle_number(uint64_t answer) { return (uint32_t)(answer >> 32); }
 
-/* The lower half of an answer: a bound, a length, a case or a place. */
+/* The lower half of an answer: a bound, a response, a length, a case or a place. */
 static inline uint32_t sumpcandle_value(uint64_t answer) { return (uint32_t)answer; }
 
 /* Whether an answer of sumpcandle_response has a code, and not a refusal: 0 or 20 to 23. */
