@@ -1,15 +1,16 @@
--- What the readers give of a row whose transactions have one task and one mode each, and what a rival counts for.
-use mathlib.Core.Path.{_≡_, subst, _∙_}
+-- The fields of a row whose transactions have one task and one mode each, by their cells, and what a rival counts for.
+use mathlib.Core.Path.{_≡_, sym, ap, _∙_}
+use lib.ListN.{getD}
 use mathlib.Core.List.{List}
 use mathlib.Core.Bool.{Bool, true, false, not}
 use lib.Dec.{T, leb, leb→le, nleb→lt}
-use Prim.Native.Nat.{ℕ, _≤_, _<_}
+use Prim.Native.Nat.{ℕ, _+_, _≤_, _<_}
 use native.Mathlib.Decide.{ℕ-discrete}
 use native.Mathlib.Omega.{arith}
 use Rattle.table.specs.Table.{Table, IsTask, transactions, jitter, blocking, priority, time}
 use Rattle.table.specs.Number.{number}
-use Rattle.row.specs.Row.{jitterCell, blockingCell, priorityCell, tableOf, bodyCell, timeCell}
-use Rattle.row.proofs.Fields.{read-jitter, read-blocking, read-priority, read-time}
+use Rattle.row.specs.Row.{taskCell, jitterCell, blockingCell, priorityCell, timesCell, tableOf}
+use Rattle.row.proofs.Held.{held-jitter, held-blocking, held-priority, held-time}
 use Rattle.analysis.specs.Choice.{when, unless}
 use Rattle.analysis.specs.Rival.{urgent?}
 use Rattle.analysis.proofs.Choice.{when-yes, when-no, unless-yes, unless-no}
@@ -24,18 +25,21 @@ module _ {row : List ℕ} (is : SingleRow row) {i : ℕ} (h : i < transactions (
   only : IsTask (tableOf row) i 0
   only = isTask (is .table .kept) (is .single) h
 
-  pub field-jitter : bodyCell row i jitterCell ≡ jitter (tableOf row) i 0
-  field-jitter = subst (λ (k : ℕ). bodyCell row k jitterCell ≡ jitter (tableOf row) i 0) itself (read-jitter (is .table) only)
+  -- the cells of the task are those of its number
+  cell-of : (n at : ℕ) → n ≡ getD row (taskCell (number (tableOf row) i 0) + at) 0 → getD row (taskCell i + at) 0 ≡ n
+  cell-of n at e = ap (λ (k : ℕ). getD row (taskCell k + at) 0) (sym itself) ∙ sym e
 
-  pub field-blocking : bodyCell row i blockingCell ≡ blocking (tableOf row) i 0
-  field-blocking = subst (λ (k : ℕ). bodyCell row k blockingCell ≡ blocking (tableOf row) i 0) itself (read-blocking (is .table) only)
+  pub field-jitter : getD row (taskCell i + jitterCell) 0 ≡ jitter (tableOf row) i 0
+  field-jitter = cell-of _ jitterCell (held-jitter row only)
 
-  pub field-priority : bodyCell row i priorityCell ≡ priority (tableOf row) i 0
-  field-priority = subst (λ (k : ℕ). bodyCell row k priorityCell ≡ priority (tableOf row) i 0) itself (read-priority (is .table) only)
+  pub field-blocking : getD row (taskCell i + blockingCell) 0 ≡ blocking (tableOf row) i 0
+  field-blocking = cell-of _ blockingCell (held-blocking row only)
 
-  pub field-time : timeCell row i 0 ≡ time (tableOf row) i 0 0
-  field-time =
-      subst (λ (k : ℕ). timeCell row k 0 ≡ time (tableOf row) i 0 0) itself (read-time (is .table) only (omega (arith, is .single .oneMode i h)))
+  pub field-priority : getD row (taskCell i + priorityCell) 0 ≡ priority (tableOf row) i 0
+  field-priority = cell-of _ priorityCell (held-priority row only)
+
+  pub field-time : getD row (taskCell i + timesCell) 0 ≡ time (tableOf row) i 0 0
+  field-time = cell-of _ timesCell (held-time row only {m = 0} (omega (arith, is .single .oneMode i h)))
 
 -- what a comparison shows
 pub shows-le : {A : Type 0} (m n : ℕ) → (m ≤ n → A) → (n < m → ¬ A) → Shows A (leb m n)

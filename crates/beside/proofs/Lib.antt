@@ -1,4 +1,5 @@
 pub mod Fields
+pub mod Passes
 pub mod Read
 pub mod Ways
 pub mod Answered

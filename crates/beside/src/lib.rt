@@ -90,7 +90,7 @@ fn response_of(row: &[u32; Table::CELLS], u: usize) -> Response
     ensures { λ r. ⌜ RespondsFrom (tableOf (now (row .entry))) u r ⌝ }
 {
     match completion::search(row, u) {
-        Found::At(t) => Response::Of((t + reads::jitter(row, u)) as u32),
+        Found::At(t) => Response::Of(t as u32 + reads::jitter(row, u)),
         Found::Nothing => Response::Unfit(PlainRefusal::NoCompletion),
     }
 }

@@ -1,21 +1,25 @@
 // The fields of a row whose table has one task in each transaction: that of transaction i has the number i.
 use row::Table;
+use row::Task;
+use row::Transaction;
 ghost use mathlib.Core.Path.{_≡_};
-ghost use Prim.Native.Nat.{_<_};
-ghost use Rattle.row.specs.Row.{tableOf};
+ghost use Prim.Native.Nat.{_+_, _<_};
+ghost use lib.ListN.{getD};
+ghost use Rattle.row.specs.Row.{tableOf, taskCells, taskCell};
+ghost use Rattle.table.specs.Limits.{transactionsMost};
 ghost use Rattle.table.specs.Table.{transactions, period, jitter, blocking, priority, time};
 ghost use Rattle.beside.specs.Lent.{SingleRow};
 
-fn wide(x: u32) -> u64
+pub(crate) fn wide(x: u32) -> u64
     ensures { λ r. ⌜ r ≡ x ⌝ }
 {
     x as u64
 }
 
-pub(crate) fn frame(row: &[u32; Table::CELLS]) -> u64
+pub(crate) fn frame(row: &[u32; Table::CELLS]) -> u32
     ensures { λ r. ⌜ r ≡ tableOf (now (row .entry)) .frame ⌝ }
 {
-    wide(Table::frame(row))
+    Table::frame(row)
 }
 
 pub(crate) fn transactions(row: &[u32; Table::CELLS]) -> usize
@@ -24,28 +28,37 @@ pub(crate) fn transactions(row: &[u32; Table::CELLS]) -> usize
     Table::transactions(row) as usize
 }
 
-pub(crate) fn period(row: &[u32; Table::CELLS], i: usize) -> u64
+pub(crate) fn period(row: &[u32; Table::CELLS], i: usize) -> u32
     requires { ⌜ SingleRow (now row) ⌝ }
     requires { ⌜ i < transactions (tableOf (now row)) ⌝ }
     ensures { λ r. ⌜ r ≡ period (tableOf (now (row .entry))) i ⌝ }
 {
-    wide(Table::period(row, i))
+    row[Table::HEADER_CELLS + i * Transaction::CELLS + Transaction::PERIOD_CELL]
 }
 
-pub(crate) fn jitter(row: &[u32; Table::CELLS], i: usize) -> u64
+// A cell of the task of transaction i.
+fn cell(row: &[u32; Table::CELLS], i: usize, at: usize) -> u32
+    requires { ⌜ i < transactionsMost ⌝ }
+    requires { ⌜ at < taskCells ⌝ }
+    ensures { λ r. ⌜ r ≡ getD (now (row .entry)) (taskCell i + at) 0 ⌝ }
+{
+    row[Table::TASKS_CELL + i * Task::CELLS + at]
+}
+
+pub(crate) fn jitter(row: &[u32; Table::CELLS], i: usize) -> u32
     requires { ⌜ SingleRow (now row) ⌝ }
     requires { ⌜ i < transactions (tableOf (now row)) ⌝ }
     ensures { λ r. ⌜ r ≡ jitter (tableOf (now (row .entry))) i 0 ⌝ }
 {
-    wide(Table::jitter(row, i))
+    cell(row, i, Task::JITTER_CELL)
 }
 
-pub(crate) fn blocking(row: &[u32; Table::CELLS], i: usize) -> u64
+pub(crate) fn blocking(row: &[u32; Table::CELLS], i: usize) -> u32
     requires { ⌜ SingleRow (now row) ⌝ }
     requires { ⌜ i < transactions (tableOf (now row)) ⌝ }
     ensures { λ r. ⌜ r ≡ blocking (tableOf (now (row .entry))) i 0 ⌝ }
 {
-    wide(Table::blocking(row, i))
+    cell(row, i, Task::BLOCKING_CELL)
 }
 
 pub(crate) fn priority(row: &[u32; Table::CELLS], i: usize) -> u32
@@ -53,13 +66,13 @@ pub(crate) fn priority(row: &[u32; Table::CELLS], i: usize) -> u32
     requires { ⌜ i < transactions (tableOf (now row)) ⌝ }
     ensures { λ r. ⌜ r ≡ priority (tableOf (now (row .entry))) i 0 ⌝ }
 {
-    Table::priority(row, i)
+    cell(row, i, Task::PRIORITY_CELL)
 }
 
-pub(crate) fn time(row: &[u32; Table::CELLS], i: usize) -> u64
+pub(crate) fn time(row: &[u32; Table::CELLS], i: usize) -> u32
     requires { ⌜ SingleRow (now row) ⌝ }
     requires { ⌜ i < transactions (tableOf (now row)) ⌝ }
     ensures { λ r. ⌜ r ≡ time (tableOf (now (row .entry))) i 0 0 ⌝ }
 {
-    wide(Table::time(row, i, 0))
+    cell(row, i, Task::TIMES_CELL)
 }

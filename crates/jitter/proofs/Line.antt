@@ -47,67 +47,57 @@ module _ {tab : Table} (kept : Kept tab) where
       ∙ mul-assoc (tab .frame) (ceil y T) C in
       chosen (ℕ-discrete i u) (urgent? tab u 0 i 0) y (ceil y T * C) (n * C) (tab .frame) (omega arith)
 
-  -- ---- a line grows by one rival
+  -- ---- a line grows by one task
 
   module _ {u t : ℕ} where
-    pub line-none : Line tab u t 0 0 0
+    pub line-none : Line tab u t 0 0 0 0
     unfolding sum
-    line-none = record { under = λ s l. omega arith; steep = le-refl 0; high = omega arith }
+    line-none = record { under = λ s l. omega arith; steep = le-refl 0; few = omega arith; flat = le-refl 0 }
 
-    -- by its load
-    pub line-sloped : {i slope fixed : ℕ} → i < transactions tab → jitter tab i 0 < 2 ^ 24 → Line tab u t i slope fixed → Line tab u t (i + 1) (slope + rivalLoad tab u i) (fixed + jitter tab i 0 * rivalLoad tab u i)
-    line-sloped {i} {slope} {fixed} h short line =
-        let J = jitter tab i 0 in
-        let w = rivalLoad tab u i in
-        let M = tab .frame in
-        let loads = sum-next i (rivalLoad tab u) in
-        let now = sum-next i (rivalRequest tab u t) in
-        let jitters : J * w ≤ 2 ^ 24 * w = mul-le-mul-right w (omega arith) in
-        record {
-          under = λ s l.
-              omega (
-                arith,
-                line .under s l,
-                load-under u h s,
-                mul-add s slope w,
-                add-mul s J w,
-                ap (λ (x : ℕ). M * x) (sum-next i (rivalRequest tab u s)),
-                mul-add M (sum i (rivalRequest tab u s)) (rivalRequest tab u s i),
-              );
-          steep = omega (arith, line .steep);
-          high =
-              omega (
-                arith,
-                line .high,
-                ap (λ (x : ℕ). M * x) now,
-                mul-add M (sum i (rivalRequest tab u t)) (rivalRequest tab u t i),
-              );
-        }
+    module _ {i slope jitters level : ℕ} (h : i < transactions tab) (line : Line tab u t i slope jitters level) where
+      abbrev M : ℕ
+      M = tab .frame
 
-    -- or by what it requests at t
-    pub line-level : {i slope fixed : ℕ} → i < transactions tab → Line tab u t i slope fixed → Line tab u t (i + 1) slope (fixed + tab .frame * rivalRequest tab u t i)
-    line-level {i} {slope} {fixed} h line =
-        let M = tab .frame in
-        let now = sum-next i (rivalRequest tab u t) in
-        record {
-          under = λ s l.
-              omega (
-                arith,
-                line .under s l,
-                mul-le-mul-left M (rival-rises kept u {i = i} {s = t} {t = s} h l),
-                ap (λ (x : ℕ). M * x) (sum-next i (rivalRequest tab u s)),
-                mul-add M (sum i (rivalRequest tab u s)) (rivalRequest tab u s i),
-              );
-          steep = omega (arith, line .steep, sum-next i (rivalLoad tab u));
-          high =
-              omega (
-                arith,
-                line .high,
-                sum-next i (rivalLoad tab u),
-                ap (λ (x : ℕ). M * x) now,
-                mul-add M (sum i (rivalRequest tab u t)) (rivalRequest tab u t i),
-              );
-        }
+      abbrev J : ℕ
+      J = jitter tab i 0
+
+      abbrev w : ℕ
+      w = rivalLoad tab u i
+
+      -- what is requested with it, in a major frame's time
+      all-next : (s : ℕ) → M * sum (i + 1) (rivalRequest tab u s) ≡ M * sum i (rivalRequest tab u s) + M * rivalRequest tab u s i
+      all-next s =
+          ap (λ (x : ℕ). M * x) (sum-next i (rivalRequest tab u s))
+          ∙ mul-add M (sum i (rivalRequest tab u s)) (rivalRequest tab u s i)
+
+      -- a rival by its load
+      pub line-sloped : J < 2 ^ 24 → Line tab u t (i + 1) (slope + w) (jitters + J * w) level
+      line-sloped short =
+          let loads = sum-next i (rivalLoad tab u) in
+          record {
+            under = λ s l.
+                omega (arith, line .under s l, load-under u h s, mul-add s slope w, add-mul s J w, all-next s);
+            steep = omega (arith, line .steep);
+            few = omega (arith, line .few, mul-le-mul-right {m = J} {n = 2 ^ 24} w (omega arith));
+            flat = omega (arith, line .flat, sum-next i (rivalRequest tab u t));
+          }
+
+      -- or by what it requests at t
+      pub line-level : Line tab u t (i + 1) slope jitters (level + rivalRequest tab u t i)
+      line-level =
+          record {
+            under = λ s l.
+                omega (
+                  arith,
+                  line .under s l,
+                  mul-le-mul-left M (rival-rises kept u {i = i} {s = t} {t = s} h l),
+                  mul-add M level (rivalRequest tab u t i),
+                  all-next s,
+                );
+            steep = omega (arith, line .steep, sum-next i (rivalLoad tab u));
+            few = omega (arith, line .few, sum-next i (rivalLoad tab u));
+            flat = omega (arith, line .flat, sum-next i (rivalRequest tab u t));
+          }
 
 module _ {tab : Table} (kept : Kept tab) (single : Single tab) {u : ℕ} (owner : u < transactions tab) where
   -- B + C
@@ -115,40 +105,40 @@ module _ {tab : Table} (kept : Kept tab) (single : Single tab) {u : ℕ} (owner 
   own = blocking tab u 0 + time tab u 0 0
 
   -- a completion in a major frame's time
-  completes-over : {t slope fixed : ℕ} → Line tab u t (transactions tab) slope fixed → (s : ℕ) → t ≤ s → Completes tab u s → tab .frame * own + fixed + s * slope ≤ s * tab .frame
+  completes-over : {t slope jitters level : ℕ} → Line tab u t (transactions tab) slope jitters level → (s : ℕ) → t ≤ s → Completes tab u s → tab .frame * (own + level) + jitters + s * slope ≤ s * tab .frame
   unfolding workload
-  completes-over line s l c =
+  completes-over {level = level} line s l c =
       let M = tab .frame in
       let all = sum (transactions tab) (rivalRequest tab u s) in
-      omega (arith, line .under s l, mul-add M own all, ap (λ (x : ℕ). M * x) (c .1), mul-comm M s)
+      omega (arith, line .under s l, mul-add M own level, mul-add M own all, ap (λ (x : ℕ). M * x) (c .1), mul-comm M s)
 
   -- Every completion is at least where the line and B + C meet t
-  pub line-sound : {t slope fixed : ℕ} → Sound tab u t → Line tab u t (transactions tab) slope fixed → slope < tab .frame → {r : ℕ} → r ≡ ceil (tab .frame * own + fixed) (tab .frame - slope) → 1 ≤ r → Sound tab u r
-  line-sound {t} {slope} {fixed} sound line short {r} e some =
+  pub line-sound : {t slope jitters level : ℕ} → Sound tab u t → Line tab u t (transactions tab) slope jitters level → slope < tab .frame → {r : ℕ} → r ≡ ceil (tab .frame * (own + level) + jitters) (tab .frame - slope) → 1 ≤ r → Sound tab u r
+  line-sound {t} {slope} {jitters} {level} sound line short {r} e some =
       record {
         some = some;
         below = λ s c.
             let over = completes-over line s (sound .below s c) c in
-            let meets : tab .frame * own + fixed ≤ s * (tab .frame - slope) = omega (arith, mul-sub s (tab .frame) slope) in
-            omega (arith, ceil-le {T = tab .frame - slope} (omega arith) s (tab .frame * own + fixed) meets);
+            let meets : tab .frame * (own + level) + jitters ≤ s * (tab .frame - slope) = omega (arith, mul-sub s (tab .frame) slope) in
+            omega (arith, ceil-le {T = tab .frame - slope} (omega arith) s (tab .frame * (own + level) + jitters) meets);
       }
 
   -- ---- a full load
 
   -- every rival by its load
-  steepest : (n : ℕ) → n ≤ transactions tab → (fixed : ℕ) × Line tab u 1 n (sum n (rivalLoad tab u)) fixed
+  steepest : (n : ℕ) → n ≤ transactions tab → (jitters : ℕ) × Line tab u 1 n (sum n (rivalLoad tab u)) jitters 0
   unfolding sum
   steepest zero l = (0, line-none kept)
   steepest (suc n) l =
-      let (fixed, line) = steepest n (omega arith) in
-      let next = line-sloped kept {i = n} (omega arith) (jitter-lt kept (isTask kept single (omega arith))) line in
-      (fixed + jitter tab n 0 * rivalLoad tab u n, rw (← add-one n) next)
+      let (jitters, line) = steepest n (omega arith) in
+      let next = line-sloped kept {i = n} (omega arith) line (jitter-lt kept (isTask kept single (omega arith))) in
+      (jitters + jitter tab n 0 * rivalLoad tab u n, rw (← add-one n) next)
 
   -- Rivals that fill the major frame leave no completion
   pub full-never : tab .frame ≤ load tab u → Never tab u
   unfolding load
   full-never full s within c =
-      let (fixed, line) = steepest (transactions tab) (le-refl _) in
+      let (jitters, line) = steepest (transactions tab) (le-refl _) in
       let over = completes-over line s (c .0) c in
       let more : s * tab .frame ≤ s * sum (transactions tab) (rivalLoad tab u) = mul-le-mul-left s full in
       let some : 1 * 1 ≤ tab .frame * own = mul-le-mul {n₁ = 1} {m₁ = 1} (kept .someFrame) (omega (arith, runs-alone kept single owner)) in

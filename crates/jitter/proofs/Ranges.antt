@@ -15,7 +15,7 @@ use Rattle.analysis.specs.Choice.{when, unless}
 use Rattle.analysis.specs.Rival.{urgent?}
 use Rattle.analysis.proofs.Choice.{when-le, unless-le}
 use Rattle.jitter.specs.Request.{request}
-use Rattle.jitter.specs.Plain.{Single, requestOf, rivalRequest, workload}
+use Rattle.jitter.specs.Plain.{Single, requestOf, rivalRequest}
 use Rattle.jitter.specs.Start.{rivalLoad, load, Line}
 use Rattle.jitter.proofs.Alone.{isTask}
 use Rattle.jitter.proofs.Approximation.{line-above}
@@ -72,27 +72,23 @@ module _ {tab : Table} (kept : Kept tab) (single : Single tab) where
     unfolding rivalLoad
     load-small i h = le-trans (chosen-le (ℕ-discrete i u) (urgent? tab u 0 i 0) _) (demand-small h)
 
-    -- as a loop adds them up
-    pub requests-room : {t : ℕ} → t ≤ horizon → (i : ℕ) → i < transactions tab → sum i (rivalRequest tab u t) + rivalRequest tab u t i ≤ transactionsMost * 2 ^ 49
-    requests-room within i h = omega (arith, sum-room i (rival-small within) h, kept .fewTransactions)
-
     pub requests-most : {t : ℕ} → t ≤ horizon → sum (transactions tab) (rivalRequest tab u t) ≤ transactionsMost * 2 ^ 49
     requests-most within = omega (arith, sum-most (transactions tab) (rival-small within), kept .fewTransactions)
 
+    -- as a loop adds them up
     pub loads-room : (i : ℕ) → i < transactions tab → sum i (rivalLoad tab u) + rivalLoad tab u i ≤ transactionsMost * 2 ^ 48
     loads-room i h = omega (arith, sum-room i load-small h, kept .fewTransactions)
 
-  -- a line below rivals that leave something of the major frame, from a t whose workload is within the horizon
+  -- a line below rivals that leave something of the major frame
   pub line-small :
-      {u t n slope fixed : ℕ}
+      {u t n slope jitters level : ℕ}
       → n ≤ transactions tab
       → load tab u < tab .frame
-      → workload tab u t ≤ horizon
-      → Line tab u t n slope fixed
-      → (slope < tab .frame) × (fixed ≤ 2 ^ 49)
-  unfolding load workload
+      → t ≤ horizon
+      → Line tab u t n slope jitters level
+      → (slope < tab .frame) × (jitters ≤ 2 ^ 48) × (level ≤ transactionsMost * 2 ^ 49)
+  unfolding load
   line-small {u} {t} {n} few short low line =
       let loads : sum n (rivalLoad tab u) ≤ sum (transactions tab) (rivalLoad tab u) = sum-grow n (transactions tab) (rivalLoad tab u) few in
       let requests : sum n (rivalRequest tab u t) ≤ sum (transactions tab) (rivalRequest tab u t) = sum-grow n (transactions tab) (rivalRequest tab u t) few in
-      let all : tab .frame * sum n (rivalRequest tab u t) ≤ 2 ^ 24 * 2 ^ 24 = mul-le-mul {n₂ = 2 ^ 24} {m₂ = 2 ^ 24} (omega (arith, kept .frame)) (omega arith) in
-      (omega (arith, line .steep), omega (arith, line .high, kept .frame))
+      (omega (arith, line .steep), omega (arith, line .few, kept .frame), omega (arith, line .flat, requests-most u low))

@@ -27,9 +27,10 @@ loads : load (two 20 0 0 0 1 1 10 0 0 0 4 2) 0 ∷ load (two 20 0 0 0 1 1 10 0 0
 unfolding computing rivalLoad load
 loads = refl
 
--- A line below what the first n tasks request, where they count, from t on: in a major frame slope·s + fixed at s. It is no steeper than
--- their load, and no higher than their jitters and their requests at t allow
-pub record Line (tab : Table) (u t n slope fixed : ℕ) : Type 0 where
-  pub under : (s : ℕ) → t ≤ s → s * slope + fixed ≤ tab .frame * sum n (rivalRequest tab u s)
+-- A line below what the first n tasks request, where they count, from t on: in a major frame's time slope·s + jitters + frame·level at s.
+-- It is no steeper than their load, has no more than their jitters allow, and its level is within what they request at t
+pub record Line (tab : Table) (u t n slope jitters level : ℕ) : Type 0 where
+  pub under : (s : ℕ) → t ≤ s → s * slope + jitters + tab .frame * level ≤ tab .frame * sum n (rivalRequest tab u s)
   pub steep : slope ≤ sum n (rivalLoad tab u)
-  pub high : fixed ≤ 2 ^ 24 * sum n (rivalLoad tab u) + tab .frame * sum n (rivalRequest tab u t)
+  pub few : jitters ≤ 2 ^ 24 * sum n (rivalLoad tab u)
+  pub flat : level ≤ sum n (rivalRequest tab u t)

@@ -1,7 +1,8 @@
 -- The completion plus the jitter, or 32.
 use mathlib.Core.Path.{subst}
-use Prim.Native.Nat.{_+_, _^_, _≤_, _<_}
+use Prim.Native.Nat.{_≤_}
 use native.Mathlib.Omega.{arith}
+use borrow.Author.Needs.{needs}
 use Rattle.row.specs.Row.{tableOf}
 use Rattle.table.specs.Limits.{horizon}
 use Rattle.jitter.specs.Plain.{Completion, responseOf}
@@ -9,7 +10,6 @@ use Rattle.jitter.proofs.Ranges.{jitter-small}
 use Rattle.beside.specs.Search.{Finds}
 use Rattle.beside.specs.Told.{RespondsFrom}
 use Rattle.beside.proofs.Ways.{found-at, found-nothing}
-use borrow.Author.Needs.{needs}
 use Rattle.beside.proofs.response_of.Statement.{statement}
 use Rattle.beside.proofs.response_of.Tie as tie
 
@@ -23,20 +23,17 @@ enum-known-t c = search needs
 at : (c : tie.After-t) → Completion (tableOf (c .before .before .before .args .row .now)) (c .before .before .before .args .u) (c .t .given .0 .0) × (c .t .given .0 .0 ≤ horizon)
 at c = found-at (subst (Finds _ _) (c .t .given .1) (c .before .before .search .ensures))
 
-small : (c : tie.After-jitter) → c .before .before .t .given .0 .0 + c .jitter .result < 2 ^ 25
-small c =
-    let x = c .before .before in
-    let pre = x .before .before .before .pre in
-    omega (arith, at x .1, c .jitter .ensures, jitter-small (pre .0 .table .kept) (pre .0 .single) (pre .1))
+cast-t6 : tie.Need-cast-t6
+cast-t6 c = record { fits = omega (arith, at (c .before) .1) }
 
 jitter-requires : tie.Need-jitter-requires
 jitter-requires c κs = search needs
 
-add-t7 : tie.Need-add-t7
-add-t7 c = omega (arith, small c)
-
-cast-t8 : tie.Need-cast-t8
-cast-t8 c = omega (arith, small c)
+add-t8 : tie.Need-add-t8
+add-t8 c =
+    let x = c .before .before in
+    let pre = x .before .before .before .pre in
+    omega (arith, at x .1, c .jitter .ensures, jitter-small (pre .0 .table .kept) (pre .0 .single) (pre .1))
 
 enum-told : tie.Need-enum-told
 enum-told c = search needs
@@ -48,7 +45,8 @@ returns c =
     rw (c .jitter .ensures) (RespondsFrom.completes done low)
 
 returns-2 : tie.Need-returns-2
-returns-2 c = RespondsFrom.never (found-nothing (subst (Finds _ _) (c .enum-told .given .1) (c .before .before .search .ensures)))
+returns-2 c =
+    RespondsFrom.never (found-nothing (subst (Finds _ _) (c .enum-told .given .1) (c .before .before .search .ensures)))
 
 pub response-of-spec : {M : Type 1} → statement M
 response-of-spec =
@@ -56,9 +54,9 @@ response-of-spec =
     (tie.spec
     search-requires
     enum-known-t
+    cast-t6
     jitter-requires
-    add-t7
-    cast-t8
+    add-t8
     enum-told
     returns
     returns-2)

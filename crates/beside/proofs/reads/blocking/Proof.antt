@@ -1,20 +1,15 @@
--- What the row's reader gives by the number of the transaction is the field of its task.
-use borrow.Author.Needs.{needs}
+-- The cell of the task of transaction i is its field.
 use mathlib.Core.Path.{_∙_}
+use native.Mathlib.Omega.{arith}
 use Rattle.beside.proofs.Fields.{field-blocking}
 use Rattle.beside.proofs.reads.blocking.Statement.{statement}
 use Rattle.beside.proofs.reads.blocking.Tie as tie
 
-blocking-requires : tie.Need-blocking-requires
-blocking-requires c κs = search needs
-
-wide-requires : tie.Need-wide-requires
-wide-requires c κs = search needs
+cell-requires : tie.Need-cell-requires
+cell-requires c κs = (omega (arith, c .pre .1, c .pre .0 .table .kept .fewTransactions), omega arith)
 
 returns : tie.Need-returns
-returns c =
-    let pre = c .before .before .before .pre in
-    c .wide .ensures ∙ c .before .blocking .ensures ∙ field-blocking (pre .0) (pre .1)
+returns c = c .cell .ensures ∙ field-blocking (c .before .pre .0) (c .before .pre .1)
 
 pub blocking-spec : {M : Type 1} → statement M
-blocking-spec = tie.close (tie.spec blocking-requires wide-requires returns)
+blocking-spec = tie.close (tie.spec cell-requires returns)
