@@ -185,14 +185,14 @@ static void nested_4(struct given *given) { nested(given, 4, 1, 16); }
 
 static void nested_15(struct given *given) { nested(given, 15, 2, 12); }
 
-static void nested_51(struct given *given) { nested(given, 51, 0, 12); }
+static void nested_46(struct given *given) { nested(given, 46, 1, 11); }
 
 static struct given tables[] = {
     {.name = "usual-31", .make = usual_31},   {.name = "usual-63", .make = usual_63},
     {.name = "jittered", .make = jittered},   {.name = "horizon", .make = at_horizon},
     {.name = "over", .make = over},           {.name = "full", .make = full},
     {.name = "each-tick", .make = each_tick}, {.name = "nested-4", .make = nested_4},
-    {.name = "nested-15", .make = nested_15}, {.name = "nested-51", .make = nested_51},
+    {.name = "nested-15", .make = nested_15}, {.name = "nested-46", .make = nested_46},
 };
 
 #define END (tables + sizeof tables / sizeof *tables)

@@ -98,7 +98,7 @@ uint64_t sumpcandle_charge(const uint8_t *image, size_t length, uint32_t task, u
 
    `image` points to `length` bytes. There is no budget: the completion is searched for from 1 upwards, by steps that look at every
    transaction, until it is found or 16,777,215 is passed. A step goes at least a tick further, and mostly much further; the
-   worst tables that were made have a million of them for one task, which is not proved to be the most. */
+   worst tables that were made have nearly a million of them for one task, which is not proved to be the most. */
 uint64_t sumpcandle_plain(const uint8_t *image, size_t length, uint32_t task);
 
 /* The linear approximation of what a task of such a table requests by t, which is ceil((t + J) / T) * C, into a cell. It is exact up to
