@@ -91,10 +91,10 @@ uint64_t sumpcandle_charge(const uint8_t *image, size_t length, uint32_t task, u
    bits: with 0 the response in ticks, from a job's arrival to its finish; with a refusal of the image its place, a bit position; else 0.
    The response may pass 16,777,215; it is at most 33,554,430.
 
-   Offsets play no part in it. Where it is at most the task's period, the bound of sumpcandle_response is this response plus the offset,
-   if the budget lasts: one of two evaluations for each tick of the period does, so SUMPCANDLE_BUDGET. Where it is above, it is that of the first job alone, and others may be queued behind: the bound may be greater,
-   or there may be none, and only a bound holds for every job. A bound is never below response + offset, and with
-   SUMPCANDLE_NO_COMPLETION there is none.
+   Offsets play no part in it. Where it is at most the task's period, the bound of sumpcandle_response is this response plus the offset, if
+   the budget lasts; two evaluations for each tick of the period do, so SUMPCANDLE_BUDGET does. Where it is above, it is that of the first
+   job alone, and others may be queued behind: the bound may be greater, or there may be none, and only a bound holds for every job. A bound
+   is never below response + offset, and with SUMPCANDLE_NO_COMPLETION there is none.
 
    `image` points to `length` bytes. There is no budget: the completion is searched for from 1 upwards, by steps that look at every
    transaction, until it is found or 16,777,215 is passed. A step goes at least a tick further, and mostly much further; the
