@@ -17,13 +17,20 @@ pub enum Input {
     Failed,
 }
 
-// Fills the buffer, to its end or to the end of the input.
+// Fills the buffer from standard input.
 pub fn take_in(buffer: &mut [u8]) -> Input
+    ensures { λ r. ⌜ Within (length (now (buffer .exit))) r ⌝ }
+{
+    take_from(STDIN_FILENO, buffer)
+}
+
+// Fills the buffer, to its end or to the end of what a descriptor gives.
+pub fn take_from(descriptor: i32, buffer: &mut [u8]) -> Input
     ensures { λ r. ⌜ Within (length (now (buffer .exit))) r ⌝ }
 {
     let mut n: usize = 0;
     while n < buffer.len() {
-        let got = libc::read(STDIN_FILENO, &mut buffer[n..]);
+        let got = libc::read(descriptor, &mut buffer[n..]);
         if got < 0 {
             return Input::Failed;
         }

@@ -1,6 +1,14 @@
 // Writing to standard output. Each writer is told whether every write so far was taken, writes only then, and says the same of
 // its own: behind a write that failed nothing is written, and errno keeps its reason to the program's end.
+mod sheet;
+
 use libc::STDOUT_FILENO;
+pub use sheet::Pen;
+pub use sheet::SHEET;
+pub use sheet::byte;
+pub use sheet::escaped;
+pub use sheet::fill;
+pub use sheet::flush;
 ghost use Prim.Native.Nat.{_<_};
 ghost use Rattle.page.specs.Whole.{Keeps};
 

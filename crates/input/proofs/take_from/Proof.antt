@@ -1,21 +1,21 @@
--- `input::take_in` meets its contract: the count never passes the buffer's length, and each read that gives something
+-- `input::take_from` meets its contract: the count never passes the buffer's length, and each read that gives something
 -- leaves less room.
 use borrow.Author.Needs.{needs}
 use mathlib.Core.Path.{_≡_}
 use Prim.Native.Nat.{_≤_, _-_}
 use lib.ListN.{length}
-use Rattle.input.proofs.take_in.Statement.{statement}
-use Rattle.input.proofs.take_in.Tie as tie
-use Rattle.input.proofs.take_in.Reads as reads
-use Rattle.input.proofs.take_in.Lts as lts
+use Rattle.input.proofs.take_from.Statement.{statement}
+use Rattle.input.proofs.take_from.Tie as tie
+use Rattle.input.proofs.take_from.Reads as reads
+use Rattle.input.proofs.take_from.Lts as lts
 use Rattle.io.proofs.count.Reads as count-reads
 use Rattle.libc.proofs.read.Reads as read-reads
 
 abbrev Inv-loop : tie.InvT-loop
-Inv-loop buffer₀ n₀ buffer n = (n ≤ length buffer) × (length buffer ≡ length buffer₀)
+Inv-loop descriptor buffer₀ n₀ buffer n = (n ≤ length buffer) × (length buffer ≡ length buffer₀)
 
 abbrev μ-loop : tie.MeasureT-loop
-μ-loop buffer₀ n₀ buffer n = length buffer - n
+μ-loop descriptor buffer₀ n₀ buffer n = length buffer - n
 
 loop-holds : tie.Need-loop-holds Inv-loop μ-loop
 loop-holds c = search needs
@@ -71,8 +71,8 @@ same-length-3 c = search needs
 returns-3 : tie.Need-returns-3 Inv-loop μ-loop
 returns-3 c = search needs
 
-pub take-in-spec : {M : Type 1} → statement M
-take-in-spec =
+pub take-from-spec : {M : Type 1} → statement M
+take-from-spec =
     tie.close
     (tie.spec
     Inv-loop
