@@ -15,6 +15,7 @@ use Rattle.analysis.specs.Choice.{when}
 use Rattle.analysis.specs.Rival.{rival?}
 use Rattle.analysis.specs.Charge.{phaseOf, heldOf, taskCharge}
 use Rattle.analysis.specs.Order.{Turn, Source}
+use Rattle.analysis.specs.Who.{mostCharged}
 use Rattle.analysis.specs.Parts.{MadeOf}
 use Rattle.analysis.specs.Answer.{Answer, bound, named, Answers}
 use Rattle.told.specs.declared.TaskCells.{TaskCells}
@@ -23,7 +24,7 @@ use Rattle.told.specs.Told.{Owed}
 use Rattle.parts.specs.declared.Parts.{Parts}
 use Rattle.parts.specs.declared.Part.{Part}
 use Rattle.parts.specs.declared.Part.the-variants as part
-use Rattle.parts.specs.Parts.{OfImage, OfTask, NoBound, partsMeant, ChargedBy, chargeListed}
+use Rattle.parts.specs.Parts.{OfImage, OfTask, NoBound, partsMeant, ChargedBy, partSaid, chargeListed}
 use Rattle.account.specs.declared.Share.{Share}
 use Rattle.account.specs.declared.Account.{Account}
 use Rattle.account.specs.declared.Account.the-variants as account
@@ -83,6 +84,19 @@ pub record Lays (tab : Table) (u a : ℕ) (x : Turn) (w : ℕ) (before after : L
       after
       ≡ laid sharesCell (tasks tab u) (λ j. shareCells (shareOf tab u a x w j))
       (laid chargesCell (transactions tab) (λ i. chargeCells (charges i)) before)
+
+-- Computed: who charges most; and the cells after it
+unfoldable pub unlessOwn : {A : Type 0} → Dec A → Part → Part
+unlessOwn (yes h) r = part.Own
+unlessOwn (no h) r = r
+
+unfoldable pub chargeOf : Table → (u a w i : ℕ) → Part
+chargeOf tab u a w i = unlessOwn (ℕ-discrete i u) (partSaid tab i (mostCharged imposed tab u a i w))
+
+unfoldable pub laidFor : Table → (u a : ℕ) (x : Turn) (w : ℕ) (before : List ℕ) → List ℕ
+laidFor tab u a x w before =
+    laid sharesCell (tasks tab u) (λ j. shareCells (shareOf tab u a x w j))
+    (laid chargesCell (transactions tab) (λ i. chargeCells (chargeOf tab u a w i)) before)
 
 -- task a of u with its cells, and the lent ones after: it has no bound, and they stay; or it has one, of these parts
 pub data AccountFor (budget : ℕ) (before : List ℕ) (tab : Table) (u a : ℕ) : Account × List ℕ → Type 0 where

@@ -12,3 +12,4 @@ pub mod Weighing
 pub mod Linking
 pub mod Most
 pub mod Pushing
+pub mod Accounted

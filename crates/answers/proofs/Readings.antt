@@ -3,7 +3,7 @@ use mathlib.Core.Path.{_≡_, ap, _∙_}
 use mathlib.Core.Bool.{Bool, true, false}
 use mathlib.Core.List.{List}
 use Prim.Native.Nat.{ℕ, _+_, _*_, _-_, _^_, _≤_, _<_}
-use native.Mathlib.Nat.{add-zero, le-trans, mul-le-mul, mul-le-mul-right, le-mul-of-pos-right}
+use native.Mathlib.Nat.{add-zero, add-mul, le-trans, mul-le-mul, mul-le-mul-right, le-mul-of-pos-right}
 use native.Mathlib.Omega.{arith}
 use lib.ListN.{getD}
 use Rattle.row.specs.Row.{tableOf}
@@ -14,10 +14,12 @@ use Rattle.table.specs.Number.{before, number}
 use Rattle.table.specs.Kept.{Kept}
 use Rattle.table.proofs.Sum.{sum-ext}
 use Rattle.table.proofs.Number.{number-lt}
-use Rattle.table.proofs.Sum.{sum-room}
+use Rattle.table.proofs.Sum.{sum-room, sum-term}
 use Rattle.table.proofs.Ranges.{kept-period, modes-few, period-lt, tasks-few}
 use Rattle.periods.proofs.Phase.{phase-lt}
-use Rattle.analysis.specs.Charge.{phaseOf, charge}
+use Rattle.analysis.specs.Choice.{when}
+use Rattle.analysis.specs.Rival.{rival?}
+use Rattle.analysis.specs.Charge.{phaseOf, heldOf, taskCharge, charge}
 use Rattle.answers.specs.declared.charges.Subject.{Subject}
 use Rattle.answers.specs.declared.charges.Split.{Split}
 use Rattle.charge.specs.Later.{laterOf}
@@ -25,7 +27,7 @@ use Rattle.charge.specs.Split.{wholePeriods, restOf, restAt, rests, chargeCap}
 use Rattle.charge.specs.Weight.{weight, modeWeight, heldBack}
 use Rattle.charge.specs.Links.{settingNumber, NextSetting}
 use Rattle.charge.proofs.Weights.{weight-lt, mode-weight-le, held-back-le}
-use Rattle.charge.proofs.Split.{rest-le, charge-split, charge-capped}
+use Rattle.charge.proofs.Split.{rest-le, rival-split, charge-split, charge-capped}
 use Rattle.charge.proofs.Along.{SettingAt}
 use Rattle.answers.specs.Split.{moment, IsSplit}
 use Rattle.answers.specs.Work.{phasesCell, weightsCell, sumsCell, settingsCell, Lent, IsSubject}
@@ -71,10 +73,30 @@ module _ {tab : Table} (kept : Kept tab) {i : ℕ} {x : Split} (split : IsSplit 
         rw (split .period)
         (charge-capped kept whole (split .owner) (x .periods) (x .rest) (omega (arith, split .below, split .period)) u a m c)
 
+    -- by one task: what is held back, the whole periods, and the rest
+    pub rival-at :
+        (j : ℕ)
+        → (heldOf tab i c j + wholePeriods whole (x .periods)) * weight tab u a i m j
+        + restOf whole (x .periods) (x .period) (x .rest) (phaseOf tab i c j) (weight tab u a i m j)
+        ≡ when (rival? tab u a i m j) (taskCharge (laterOf whole) tab i m c (moment x) j)
+    unfolding moment restAt
+    rival-at j =
+        rw (split .period)
+        (omega (
+          arith,
+          rival-split kept whole (split .owner) (x .periods) (x .rest) (omega (arith, split .below, split .period)) u a m c j,
+          add-mul (heldOf tab i c j) (wholePeriods whole (x .periods)) (weight tab u a i m j),
+        ))
+
     -- which is far below 2 ^ 64
     pub charge-fits : m < modes tab i → charge (laterOf whole) tab u a i m c (moment x) < 2 ^ 61
     unfolding chargeCap
     charge-fits mode = omega (arith, charge-at-most, held-back-le kept u a (split .owner) mode c, passed-le mode u a)
+
+    pub rival-fits : m < modes tab i → (j : ℕ) → j < tasks tab i → when (rival? tab u a i m j) (taskCharge (laterOf whole) tab i m c (moment x) j) < 2 ^ 61
+    unfolding charge
+    rival-fits mode j l =
+        omega (arith, sum-term (tasks tab i) (λ j. when (rival? tab u a i m j) (taskCharge (laterOf whole) tab i m c (moment x) j)) j l, charge-fits mode)
 
 -- ---- cells
 

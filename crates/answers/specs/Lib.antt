@@ -5,3 +5,4 @@ pub mod Work
 pub mod Parts
 pub mod Split
 pub mod Who
+pub mod Explained

@@ -104,7 +104,7 @@ pub(crate) fn split_of(work: &[u32; Work::CELLS], i: usize, t: Ticks) -> Split
 }
 
 // What a task of that phase and weight charges beside the whole periods.
-fn rest_of(x: Split, whole: bool, phase: u32, weight: u32) -> u32
+pub(crate) fn rest_of(x: Split, whole: bool, phase: u32, weight: u32) -> u32
     requires { ⌜ x .period < 2 ^ 24 ⌝ }
     requires { ⌜ x .rest < x .period ⌝ }
     requires { ⌜ phase < x .period ⌝ }
@@ -198,7 +198,7 @@ pub(crate) fn mode_weight(work: &[u32; Work::CELLS], s: Subject, i: usize, m: us
     reads::wide(work[Work::MODE_WEIGHTS + Transaction::MODES * i + m])
 }
 
-fn whole_periods(whole: bool, periods: u64) -> u64
+pub(crate) fn whole_periods(whole: bool, periods: u64) -> u64
     ensures { λ r. ⌜ r ≡ wholePeriods whole periods ⌝ }
 {
     if whole {

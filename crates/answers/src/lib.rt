@@ -1,6 +1,7 @@
 // How late can each task finish, and who pushed it? The cells of every task of an image, the C host's number for one task, what a
-// bound is made of, and what a transaction charges. The layers below speak to each other inside this crate, and learn of an image only
+// bound is made of, what a transaction charges, and all of it for one task. The layers below speak to each other inside this crate, and learn of an image only
 // what `image::read_in_front` promises: its table's row is read right into the front of the work cells.
+use account::Account;
 use layout::Work;
 use parts::Made;
 use parts::Part;
@@ -12,9 +13,11 @@ ghost use mathlib.Core.Path.{_≡_};
 ghost use lib.ListN.{length};
 ghost use Rattle.row.specs.Row.{tableOf, RowOfTable};
 ghost use Rattle.answers.specs.Work.{workCells};
+ghost use Rattle.account.specs.Account.{Accounts};
 ghost use Rattle.parts.specs.Parts.{Makes, ChargesOne};
 ghost use Rattle.told.specs.Told.{Fills, FillsFrom, Responds, RespondsFrom};
 
+mod accounts;
 mod ahead;
 mod answers;
 mod chains;
@@ -92,6 +95,19 @@ pub fn parts(image: &[u8], task: u32, budget: u32) -> Made
     match image::read_in_front(image, &mut working) {
         Answer::Refused(refusal, at) => Made::Refused(refusal, at),
         Answer::Accepted => pushed::parts_from(&mut working, reads::index(task), budget),
+    }
+}
+
+// All that is told of one task, by one walk: its cells, what its bound is made of, and in the lent cells who charges what in it.
+pub fn account(image: &[u8], task: u32, budget: u32, cells: &mut [u64; Account::CELLS]) -> Account
+    ensures { λ r. ⌜ Accounts (now (image .entry)) task budget (now (cells .entry)) (now (cells .exit)) r ⌝ }
+{
+    let mut working = [0u32; Work::CELLS];
+    match image::read_in_front(image, &mut working) {
+        Answer::Refused(refusal, at) => Account::Refused(refusal, at),
+        Answer::Accepted => {
+            accounts::account_from(&mut working, reads::index(task), budget, cells)
+        }
     }
 }
 

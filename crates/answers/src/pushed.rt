@@ -33,6 +33,7 @@ ghost use Rattle.charge.specs.Later.{laterOf};
 ghost use Rattle.parts.specs.Parts.{partsMeant, OfTask, MadeFor, ChargedBy};
 ghost use Rattle.parts.specs.declared.Made.the-variants as made;
 ghost use Rattle.parts.specs.declared.Part.the-variants as part;
+ghost use Rattle.answers.specs.Explained.{Explains};
 ghost use Rattle.answers.specs.Turn.{sourceMeant};
 ghost use Rattle.answers.specs.Work.{workCells, Lent, IsSubject};
 
@@ -73,21 +74,40 @@ fn parts_of(work: &[u32; Work::CELLS], s: Subject, bound: u32, by: Source) -> Pa
     }
 }
 
+// An answer, and of a bound the job that gives it and its parts.
+pub(crate) enum Explained {
+    Unbounded(TaskAnswer),
+    Bounded(TaskAnswer, Source, Parts),
+}
+
+// The answer of the subject under a budget, explained.
+pub(crate) fn explain(work: &[u32; Work::CELLS], s: Subject, budget: u32) -> Explained
+    requires { ⌜ Lent (now work) ⌝ }
+    requires { ⌜ IsSubject (now work) s ⌝ }
+    ensures { λ r. ⌜ Explains budget (tableOf (now (work .entry))) (s .u) (s .a) r ⌝ }
+{
+    let answer = answers::answer(work, s, budget);
+    let TaskAnswer::Bound(bound, _, by) = answer else {
+        return Explained::Unbounded(answer);
+    };
+    let source = answers::source(work, s.u, by);
+    Explained::Bounded(answer, source, parts_of(work, s, bound, source))
+}
+
 // What the subject's bound under a budget is made of, where it has one.
 fn made(work: &[u32; Work::CELLS], s: Subject, budget: u32) -> Made
     requires { ⌜ Lent (now work) ⌝ }
     requires { ⌜ IsSubject (now work) s ⌝ }
     ensures { λ r. ⌜ MadeFor budget (tableOf (now (work .entry))) (s .u) (s .a) r ⌝ }
 {
-    let answer = answers::answer(work, s, budget);
-    let TaskAnswer::Bound(bound, _, by) = answer else {
-        return Made::NoBound;
-    };
-    Made::Of(parts_of(work, s, bound, answers::source(work, s.u, by)))
+    match explain(work, s, budget) {
+        Explained::Unbounded(_) => Made::NoBound,
+        Explained::Bounded(_, _, parts) => Made::Of(parts),
+    }
 }
 
 // What transaction i charges the subject by t.
-fn charged(work: &[u32; Work::CELLS], s: Subject, whole: bool, i: usize, t: u32) -> Part
+pub(crate) fn charged(work: &[u32; Work::CELLS], s: Subject, whole: bool, i: usize, t: u32) -> Part
     requires { ⌜ Lent (now work) ⌝ }
     requires { ⌜ IsSubject (now work) s ⌝ }
     ensures { λ r. ⌜ ChargedBy (laterOf whole) i t (tableOf (now (work .entry))) (s .u) (s .a) r ⌝ }

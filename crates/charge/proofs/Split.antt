@@ -133,7 +133,7 @@ weighed (no f) whole held C {T} h φ below q r rest =
     omega (arith, mul-zero held, mul-zero (wholePeriods whole q), rest-le whole q T r φ 0)
 
 module _ {tab : Table} (kept : Kept tab) (whole : Bool) {i : ℕ} (owner : i < transactions tab) (q r : ℕ) (below : r < period tab i) (u a m c : ℕ) where
-  rival-split :
+  pub rival-split :
       (j : ℕ)
       → when (rival? tab u a i m j) (taskCharge (laterOf whole) tab i m c (q * period tab i + r) j)
       ≡ heldOf tab i c j * weight tab u a i m j

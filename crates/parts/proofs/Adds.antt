@@ -35,7 +35,7 @@ said-ticks tab i nobody = refl
 said-ticks tab i (charged r x) = refl
 
 -- the ticks of one transaction: none for the task's own, else its greatest charge
-charged-ticks : {later : Later} {i t : ℕ} {tab : Table} {u a : ℕ} {r : Part} → i < transactions tab → ChargedBy later i t tab u a r → ticksOf r ≡ unless (ℕ-discrete i u) (greatest later tab u a i t)
+pub charged-ticks : {later : Later} {i t : ℕ} {tab : Table} {u a : ℕ} {r : Part} → i < transactions tab → ChargedBy later i t tab u a r → ticksOf r ≡ unless (ℕ-discrete i u) (greatest later tab u a i t)
 unfolding unless ticksOf
 charged-ticks {later} {i} {t} {tab} {u} {a} l (ChargedBy.own e) = go (ℕ-discrete i u)
   where

@@ -34,7 +34,7 @@ use Rattle.parts.specs.Parts.{OfImage, OfTask, partsMeant, MadeFor, Make
 pub clash : (image : List ℕ) {refusal : Refusal} {at : ℕ} → imageFault image ≡ answer.Refused refusal at → IsAccepted image → ⊥
 clash image e ok = let z : _≡_ {A = ℕ} 0 1 = cc in omega arith
 
-of-image : {R : Type 0} (refusedAs : Refusal → ℕ → R) {Told : Table → R → Type 0} (image : List ℕ) {r q : R} → ((tab : Table) → Kept tab → (x y : R) → Told tab x → Told tab y → x ≡ y) → OfImage refusedAs Told image r → OfImage refusedAs Told image q → r ≡ q
+pub of-image : {R : Type 0} (refusedAs : Refusal → ℕ → R) {Told : Table → R → Type 0} (image : List ℕ) {r q : R} → ((tab : Table) → Kept tab → (x y : R) → Told tab x → Told tab y → x ≡ y) → OfImage refusedAs Told image r → OfImage refusedAs Told image q → r ≡ q
 of-image refusedAs image one (OfImage.refused {refusal = x} {at = n} h) (OfImage.refused {refusal = y} {at = m} k) =
     let e : x ≡ y = cc in
     let f : n ≡ m = cc in
@@ -43,7 +43,7 @@ of-image refusedAs image one (OfImage.refused h) (OfImage.accepted ok y) = absur
 of-image refusedAs image one (OfImage.accepted ok x) (OfImage.refused h) = absurd (clash image h ok)
 of-image refusedAs image one (OfImage.accepted ok x) (OfImage.accepted yet y) = one _ (kept image ok) _ _ x y
 
-of-task : {R : Type 0} (refusedAs : Refusal → ℕ → R) {Told : Table → (u a : ℕ) → R → Type 0} (k : ℕ) (tab : Table) {r q : R} → ((u a : ℕ) → IsTask tab u a → (x y : R) → Told tab u a x → Told tab u a y → x ≡ y) → OfTask refusedAs Told k tab r → OfTask refusedAs Told k tab q → r ≡ q
+pub of-task : {R : Type 0} (refusedAs : Refusal → ℕ → R) {Told : Table → (u a : ℕ) → R → Type 0} (k : ℕ) (tab : Table) {r q : R} → ((u a : ℕ) → IsTask tab u a → (x y : R) → Told tab u a x → Told tab u a y → x ≡ y) → OfTask refusedAs Told k tab r → OfTask refusedAs Told k tab q → r ≡ q
 of-task refusedAs k tab one (OfTask.unknown l) (OfTask.unknown m) = refl
 of-task refusedAs k tab one (OfTask.unknown l) (OfTask.known isTask numbered y) = absurd (omega (arith, number-lt tab isTask, numbered))
 of-task refusedAs k tab one (OfTask.known isTask numbered x) (OfTask.unknown l) = absurd (omega (arith, number-lt tab isTask, numbered))
@@ -83,7 +83,7 @@ makes-unique {image} {task} =
 
 -- ---- the charge of a transaction
 
-charged-by : (later : Later) {i t : ℕ} (tab : Table) (u a : ℕ) → IsTask tab u a → {r q : Part} → ChargedBy later i t tab u a r → ChargedBy later i t tab u a q → r ≡ q
+pub charged-by : (later : Later) {i t : ℕ} (tab : Table) (u a : ℕ) → IsTask tab u a → {r q : Part} → ChargedBy later i t tab u a r → ChargedBy later i t tab u a q → r ≡ q
 charged-by later tab u a isTask (ChargedBy.own e) (ChargedBy.own f) = refl
 charged-by later tab u a isTask (ChargedBy.own e) (ChargedBy.missing m) = absurd (omega (arith, isTask .owner))
 charged-by later tab u a isTask (ChargedBy.own e) (ChargedBy.other o k f) = absurd (o .other e)

@@ -1,8 +1,9 @@
 // What the emulator's host, an editor and the programs call: the cells of every task of an image, the C host's number for one task,
 // who pushed it, a table read into cells and written from them, and the plain analysis beside it.
-// Each function is one call into the crates below, where what it promises is found, or one of theirs, passed on: `parts`, what the bound
-// of one task is made of; `part`, the part of one transaction in it; `charge`, what one transaction charges a task by t; `plain`, the
-// response of one task by the plain jitter analysis; `approximate`, the linear approximation of what it requests by t.
+// Each function is one call into the crates below, where what it promises is found, or one of theirs, passed on: `account`, all that is
+// told of one task, by one walk; `parts`, what the bound of one task is made of; `part`, the part of one transaction in it; `charge`, what
+// one transaction charges a task by t; `plain`, the response of one task by the plain jitter analysis; `approximate`, the linear
+// approximation of what it requests by t.
 use parts::Charge;
 use parts::Parts;
 use row::Table;
@@ -12,6 +13,7 @@ ghost use Rattle.editor.specs.Editor.{Takes, Gives};
 ghost use Rattle.parts.specs.Parts.{Makes, ChargesOne, HasPart};
 ghost use Rattle.asked.specs.Asked.{TellsFilled, TellsMade, TellsPart, isWhole};
 ghost use Rattle.beside.specs.Told.{TellsResponse, TellsApproximation};
+pub use answers::account;
 pub use answers::charge;
 pub use answers::parts;
 pub use asked::part;

@@ -1,90 +1,42 @@
--- `made` gives the parts of the bound that the subject's answer is, and no bound where that answer is none.
-use mathlib.Core.Path.{_≡_, sym, ap, _∙_, subst}
+-- `made` gives the parts of the bound that the subject's answer is explained by, and no bound where that answer is none.
+use mathlib.Core.Path.{_≡_, subst}
 use denote.Ref.{now}
 use borrow.Author.Needs.{needs}
 use Rattle.row.specs.Row.{tableOf}
-use Rattle.table.specs.Table.{Table}
-use Rattle.periods.specs.Charge.{imposed}
-use Rattle.analysis.specs.Answer.{Answer, bound, named, Answers}
-use Rattle.analysis.specs.Walk.{answer}
-use Rattle.analysis.proofs.Charges.{imposed-fair}
-use Rattle.analysis.proofs.Answer.{answer-by, answers}
-use Rattle.told.specs.Answered.{namedMeant, meant}
-use Rattle.parts.specs.Parts.{MadeFor}
-use Rattle.answers.specs.Turn.{sourceMeant}
-use Rattle.answers.proofs.Answered.{named-from, answer-source}
-use Rattle.answers.proofs.Pushing.{no-bound}
+use Rattle.answers.specs.declared.pushed.Explained.{Explained}
+use Rattle.answers.specs.Explained.{Explains}
+use Rattle.answers.proofs.Pushing.{made-unbounded, made-bounded}
 use Rattle.answers.proofs.pushed.made.Statement.{statement}
 use Rattle.answers.proofs.pushed.made.Tie as tie
 
-abbrev tab : tie.Start → Table
-tab s = tableOf (now (s .args .work))
+explain-requires : tie.Need-explain-requires
+explain-requires c κs = search needs
 
--- the answer of the definitions
-abbrev wanted : tie.Start → Answer
-wanted s = answer imposed (tab s) (s .args .s .u) (s .args .s .a) (s .args .budget)
+enum-told : tie.Need-enum-told
+enum-told c = search needs
 
-right : (s : tie.Start) {x : Answer} → x ≡ wanted s → Answers (tab s) (s .args .s .u) (s .args .s .a) (s .args .budget) x
-right s e =
-    subst (Answers (tab s) (s .args .s .u) (s .args .s .a) (s .args .budget)) (sym e)
-    (answers (s .pre .0 .table .kept) (s .pre .1 .chosen .isTask) (s .args .budget))
+enum-known-parts : tie.Need-enum-known-parts
+enum-known-parts c = search needs
 
-answer-requires : tie.Need-answer-requires
-answer-requires c κs = search needs
-
-enum-known-answer : tie.Need-enum-known-answer
-enum-known-answer c = search needs
+-- what the match shows of the answer
+shown :
+    (c : tie.After-explain) {x : Explained}
+    → c .explain .result ≡ x
+    → let s = c .before in
+    Explains (s .args .budget) (tableOf (now (s .args .work))) (s .args .s .u) (s .args .s .a) x
+shown c e =
+    let s = c .before in
+    subst (Explains (s .args .budget) (tableOf (now (s .args .work))) (s .args .s .u) (s .args .s .a)) e (c .explain .ensures)
 
 returns : tie.Need-returns
 returns c =
-    let d = c .before in
-    MadeFor.unbounded (right (d .before) (d .answer .ensures)) (no-bound (d .answer .result) (c .match .keys2))
-
--- the answer is a bound
-told :
-    (c : tie.After-answer2)
-    → let g = c .answer2 .given .0 in
-    bound (g .0) (g .1 .0) (namedMeant (g .1 .1 .0)) ≡ wanted (c .before .before .before)
-unfolding meant
-told c = ap meant (sym (c .answer2 .given .1)) ∙ c .before .before .answer .ensures
-
-source-requires : tie.Need-source-requires
-source-requires c κs =
-    let s = c .before .before .before .before in
-    let isTask = s .pre .1 .chosen .isTask in
-    let (x, e, by) = answer-by (s .pre .0 .table .kept) isTask imposed-fair (s .args .budget) (sym (told (c .before))) in
-    (s .pre .0, (isTask .owner, named-from (tab s) (s .args .s .u) x e))
-
--- that the source gives
-gave :
-    (c : tie.After-source)
-    → let g = c .before .before .answer2 .given .0 in
-    let s = c .before .before .before .before .before in
-    bound (g .0) (g .1 .0) (named (tab s) (s .args .s .u) (sourceMeant (c .source .result))) ≡ wanted s
-gave c =
-    let d = c .before .before in
-    let g = d .answer2 .given .0 in
-    ap (bound (g .0) (g .1 .0)) (c .source .ensures) ∙ told d
-
-parts-of-requires : tie.Need-parts-of-requires
-parts-of-requires c κs =
-    let s = c .before .before .before .before .before in
-    let a = s .args in
-    let (lent, subject) = s .pre in
-    let kept = lent .table .kept in
-    let isTask = subject .chosen .isTask in
-    (lent, (subject, answer-source (tab s) (a .s .u) (a .s .a) (a .budget) kept isTask (sourceMeant (c .source .result)) (gave c)))
+    let (lent, subject) = c .before .before .before .pre in
+    made-unbounded (lent .table .kept) (subject .chosen .isTask) (shown (c .before .before) (c .enum-told .given .1))
 
 returns-2 : tie.Need-returns-2
-returns-2 c = MadeFor.bounded (right (c .before .before .before .before .before .before) (gave (c .before))) (c .parts-of .ensures)
+returns-2 c =
+    let (lent, subject) = c .before .before .before .before .pre in
+    made-bounded (lent .table .kept) (subject .chosen .isTask) (shown (c .before .before .before) (c .before .parts .given .1))
 
 pub made-spec : {M : Type 1} → statement M
-made-spec =
-    tie.close
-    (tie.spec
-    answer-requires
-    enum-known-answer
-    returns
-    source-requires
-    parts-of-requires
-    returns-2)
+made-spec = tie.close (tie.spec explain-requires enum-told enum-known-parts returns returns-2)
