@@ -9,6 +9,7 @@ pub use sheet::byte;
 pub use sheet::escaped;
 pub use sheet::fill;
 pub use sheet::flush;
+pub use sheet::put;
 ghost use Prim.Native.Nat.{_<_};
 ghost use Rattle.page.specs.Whole.{Keeps};
 

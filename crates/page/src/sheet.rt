@@ -50,7 +50,8 @@ fn lay(sheet: &mut [u8; SHEET], pen: Pen, b: u8) -> Pen
     }
 }
 
-fn put(sheet: &mut [u8; SHEET], pen: Pen, text: &[u8]) -> Pen
+// A text as it is.
+pub fn put(sheet: &mut [u8; SHEET], pen: Pen, text: &[u8]) -> Pen
     ensures { λ r. ⌜ Keeps (pen .whole) (r .whole) ⌝ }
 {
     let mut next = pen;

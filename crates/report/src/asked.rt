@@ -1,0 +1,48 @@
+// What the program is started with: which piece of a page, and what stands on which descriptor.
+//     report PIECE VERDICT NAMES AGAINST KEY NAME OLD
+// PIECE is page, a whole page of one table; entry, one of several tables, its line of the summary first; top, middle or bottom, what stands
+// around these. VERDICT, NAMES and AGAINST are that word where a verdict is asked for, where names stand on descriptor 4, and where the
+// image to compare with stands on descriptor 5; else anything. KEY tells tables of one page apart, NAME and OLD are what is shown.
+pub(crate) struct Asked {
+    pub(crate) entry: bool,
+    pub(crate) verdict: bool,
+    pub(crate) names: bool,
+    pub(crate) against: bool,
+}
+
+// As long as a path may be, and as long as a key is.
+pub(crate) const MOST: usize = 4096;
+
+pub(crate) const KEY: usize = 16;
+
+fn same(text: &[u8], word: &[u8]) -> bool {
+    if text.len() != word.len() {
+        return false;
+    }
+    let mut i: usize = 0;
+    while i < text.len() {
+        if text[i] != word[i] {
+            return false;
+        }
+        i += 1;
+    }
+    true
+}
+
+pub(crate) fn is_word(i: usize, word: &[u8]) -> bool {
+    let mut text = [0u8; 16];
+    let n = os::arg(i, &mut text);
+    if os::errno() != 0 {
+        return false;
+    }
+    same(&text[..n], word)
+}
+
+pub(crate) fn of_words() -> Asked {
+    Asked {
+        entry: is_word(1, b"entry"),
+        verdict: is_word(2, b"verdict"),
+        names: is_word(3, b"names"),
+        against: is_word(4, b"against"),
+    }
+}
