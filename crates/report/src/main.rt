@@ -89,7 +89,7 @@ fn accepted(
     table: &[u32],
     names: &[u8],
     old: &[u8],
-    key: &[u8],
+    key: u64,
     name: &[u8],
     old_name: &[u8],
 ) {
@@ -138,7 +138,7 @@ fn refuse(
     sheet: &mut [u8; SHEET],
     a: Asked,
     image: &[u8],
-    key: &[u8],
+    key: u64,
     name: &[u8],
     refusal: Refusal,
     at: usize,
@@ -169,7 +169,7 @@ fn table(
     image: &[u8],
     names: &[u8],
     old: &[u8],
-    key: &[u8],
+    key: u64,
     name: &[u8],
     old_name: &[u8],
 ) {
@@ -207,14 +207,14 @@ fn around(sheet: &mut [u8; SHEET], title: &[u8]) {
 
 // One step for each thing that is taken in, each with its own buffer.
 
-fn with_old(a: Asked, image: &[u8], names: &[u8], key: &[u8], name: &[u8], old: &[u8]) {
+fn with_old(a: Asked, image: &[u8], names: &[u8], key: u64, name: &[u8], old: &[u8]) {
     let mut sheet = [0u8; SHEET];
     let mut old_name = [0u8; asked::MOST];
     let n = os::arg(7, &mut old_name);
     table(&mut sheet, a, image, names, old, key, name, &old_name[..n]);
 }
 
-fn with_names(a: Asked, image: &[u8], names: &[u8], key: &[u8], name: &[u8]) {
+fn with_names(a: Asked, image: &[u8], names: &[u8], key: u64, name: &[u8]) {
     let mut old = [0u8; input::BUFFER];
     let t = take(a.against, OLD_FILENO, &mut old);
     let n = t.n;
@@ -225,7 +225,7 @@ fn with_names(a: Asked, image: &[u8], names: &[u8], key: &[u8], name: &[u8]) {
     os::fail(b"report: the table to compare with cannot be read");
 }
 
-fn with_image(a: Asked, image: &[u8], key: &[u8], name: &[u8]) {
+fn with_image(a: Asked, image: &[u8], key: u64, name: &[u8]) {
     let mut names = [0u8; NAMES];
     let t = take(a.names, NAMES_FILENO, &mut names);
     let n = t.n;
@@ -236,7 +236,7 @@ fn with_image(a: Asked, image: &[u8], key: &[u8], name: &[u8]) {
     os::fail(b"report: the names cannot be read");
 }
 
-fn with_key(a: Asked, key: &[u8], name: &[u8]) {
+fn with_key(a: Asked, key: u64, name: &[u8]) {
     let mut image = [0u8; input::BUFFER];
     let t = take(true, STDIN_FILENO, &mut image);
     let n = t.n;
@@ -250,9 +250,7 @@ fn with_key(a: Asked, key: &[u8], name: &[u8]) {
 fn with_name(a: Asked, name: &[u8]) {
     let whole_page = asked::is_word(1, b"page");
     if whole_page | a.entry {
-        let mut key = [0u8; asked::KEY];
-        let n = os::arg(5, &mut key);
-        with_key(a, &key[..n], name);
+        with_key(a, asked::number(5), name);
         return;
     }
     let mut sheet = [0u8; SHEET];

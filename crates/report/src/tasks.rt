@@ -144,7 +144,7 @@ fn columns(
     let pen = page::put(
         sheet,
         pen,
-        b"</span><span class='v'><span class='h'>, bound </span>",
+        b"</span><span class='v'><span class='h'>bound </span>",
     );
     let pen = if bound == 0 {
         page::put(sheet, pen, b"&#8211;")
@@ -154,7 +154,7 @@ fn columns(
     let pen = page::fill(
         sheet,
         pen,
-        b"</span><span class='v'><span class='h'>, deadline </span>$</span>",
+        b"</span><span class='v'><span class='h'>deadline </span>$</span>",
         &[facts::fact(facts, k, Facts::DEADLINE)],
     );
     let pen = meaning(sheet, pen, facts, k);
@@ -190,14 +190,12 @@ fn task(
     facts: &[u64; Facts::CELLS],
     accounts: &[u64; Facts::ACCOUNTS],
     names: &[u8],
-    key: &[u8],
+    key: u64,
     x: Scale,
     compared: bool,
     k: usize,
 ) -> Pen {
-    let pen = page::put(sheet, pen, b"<div id='a");
-    let pen = page::escaped(sheet, pen, key);
-    let pen = page::fill(sheet, pen, b"t@", &[k as u64]);
+    let pen = page::fill(sheet, pen, b"<div id='a@t@", &[key, k as u64]);
     if facts::fact(facts, k, Facts::BOUND) == 0 {
         return unbounded(sheet, pen, facts, names, compared, k);
     }
@@ -225,7 +223,7 @@ pub(crate) fn every(
     facts: &[u64; Facts::CELLS],
     accounts: &[u64; Facts::ACCOUNTS],
     names: &[u8],
-    key: &[u8],
+    key: u64,
     tasks: usize,
     compared: bool,
 ) -> Pen {

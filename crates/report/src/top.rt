@@ -40,10 +40,8 @@ pub(crate) fn sum(sheet: &mut [u8; SHEET], pen: Pen, image: &[u8]) -> Pen {
 }
 
 // The name of a table as its heading.
-pub(crate) fn heading(sheet: &mut [u8; SHEET], pen: Pen, key: &[u8], name: &[u8]) -> Pen {
-    let pen = page::put(sheet, pen, b"<article id='a");
-    let pen = page::escaped(sheet, pen, key);
-    let pen = page::put(sheet, pen, b"'>\n<h1>");
+pub(crate) fn heading(sheet: &mut [u8; SHEET], pen: Pen, key: u64, name: &[u8]) -> Pen {
+    let pen = page::fill(sheet, pen, b"<article id='a@'>\n<h1>", &[key]);
     let pen = page::escaped(sheet, pen, name);
     page::put(sheet, pen, b"</h1>\n")
 }
@@ -77,7 +75,7 @@ fn open_ones(
     pen: Pen,
     facts: &[u64; Facts::CELLS],
     names: &[u8],
-    key: &[u8],
+    key: u64,
     tasks: usize,
 ) -> Pen {
     let mut pen = pen;
@@ -88,9 +86,7 @@ fn open_ones(
                 pen = page::put(sheet, pen, b", ");
             }
             first = false;
-            pen = page::put(sheet, pen, b"<a href='#a");
-            pen = page::escaped(sheet, pen, key);
-            pen = page::fill(sheet, pen, b"t@'>", &[k as u64]);
+            pen = page::fill(sheet, pen, b"<a href='#a@t@'>", &[key, k as u64]);
             pen = tasks::named(sheet, pen, facts, names, k);
             pen = page::put(sheet, pen, b"</a>");
         }
@@ -104,7 +100,7 @@ pub(crate) fn verdict(
     pen: Pen,
     facts: &[u64; Facts::CELLS],
     names: &[u8],
-    key: &[u8],
+    key: u64,
     tasks: usize,
     open: u64,
 ) -> Pen {
@@ -118,7 +114,7 @@ pub(crate) fn verdict(
     let pen = page::fill(
         sheet,
         pen,
-        b"<p class='verdict open'>&#9650; Not shown to keep their deadlines, $ of $ tasks: ",
+        b"<p class='verdict open'>&#9650; Not every task is shown to keep its deadline; not shown are $ of $: ",
         &[open, tasks as u64],
     );
     let pen = open_ones(sheet, pen, facts, names, key, tasks);
@@ -173,10 +169,8 @@ pub(crate) fn several(sheet: &mut [u8; SHEET], pen: Pen, title: &[u8]) -> Pen {
 }
 
 // The name of a table in the summary, which leads to it.
-fn linked(sheet: &mut [u8; SHEET], pen: Pen, key: &[u8], name: &[u8]) -> Pen {
-    let pen = page::put(sheet, pen, b"<tr><td><a href='#a");
-    let pen = page::escaped(sheet, pen, key);
-    let pen = page::put(sheet, pen, b"'>");
+fn linked(sheet: &mut [u8; SHEET], pen: Pen, key: u64, name: &[u8]) -> Pen {
+    let pen = page::fill(sheet, pen, b"<tr><td><a href='#a@'>", &[key]);
     let pen = page::escaped(sheet, pen, name);
     page::put(sheet, pen, b"</a>")
 }
@@ -185,7 +179,7 @@ fn linked(sheet: &mut [u8; SHEET], pen: Pen, key: &[u8], name: &[u8]) -> Pen {
 pub(crate) fn line(
     sheet: &mut [u8; SHEET],
     pen: Pen,
-    key: &[u8],
+    key: u64,
     name: &[u8],
     tasks: usize,
     open: u64,
@@ -207,7 +201,7 @@ pub(crate) fn line(
 pub(crate) fn line_refused(
     sheet: &mut [u8; SHEET],
     pen: Pen,
-    key: &[u8],
+    key: u64,
     name: &[u8],
     number: u32,
 ) -> Pen {

@@ -5,10 +5,10 @@ use Rattle.report.proofs.top.open_ones.Statement.{statement}
 use Rattle.report.proofs.top.open_ones.Tie as tie
 
 abbrev Inv-loop : tie.InvT-loop
-Inv-loop sheet₀ facts names key tasks pen₀ first₀ k₀ t10 t11 t12 t13 sheet pen first k = k ≤ tasks
+Inv-loop sheet₀ facts names key tasks pen₀ first₀ k₀ t10 t11 t12 sheet pen first k = k ≤ tasks
 
 abbrev μ-loop : tie.MeasureT-loop
-μ-loop sheet₀ facts names key tasks pen₀ first₀ k₀ t10 t11 t12 t13 sheet pen first k = tasks - k
+μ-loop sheet₀ facts names key tasks pen₀ first₀ k₀ t10 t11 t12 sheet pen first k = tasks - k
 
 loop-holds : tie.Need-loop-holds Inv-loop μ-loop
 loop-holds c = search needs
@@ -25,15 +25,6 @@ slice-aggregate-put c = search needs
 put-requires : tie.Need-put-requires Inv-loop μ-loop
 put-requires c κs = search needs
 
-slice-aggregate-put-2 : tie.Need-slice-aggregate-put-2 Inv-loop μ-loop
-slice-aggregate-put-2 c = search needs
-
-put-requires-2 : tie.Need-put-requires-2 Inv-loop μ-loop
-put-requires-2 c κs = search needs
-
-escaped-requires : tie.Need-escaped-requires Inv-loop μ-loop
-escaped-requires c κs = search needs
-
 slice-aggregate-fill : tie.Need-slice-aggregate-fill Inv-loop μ-loop
 slice-aggregate-fill c = search needs
 
@@ -46,11 +37,11 @@ fill-requires c κs = search needs
 named-requires : tie.Need-named-requires Inv-loop μ-loop
 named-requires c κs = search needs
 
-slice-aggregate-put-3 : tie.Need-slice-aggregate-put-3 Inv-loop μ-loop
-slice-aggregate-put-3 c = search needs
+slice-aggregate-put-2 : tie.Need-slice-aggregate-put-2 Inv-loop μ-loop
+slice-aggregate-put-2 c = search needs
 
-put-requires-3 : tie.Need-put-requires-3 Inv-loop μ-loop
-put-requires-3 c κs = search needs
+put-requires-2 : tie.Need-put-requires-2 Inv-loop μ-loop
+put-requires-2 c κs = search needs
 
 add-k : tie.Need-add-k Inv-loop μ-loop
 add-k c = search needs
@@ -75,15 +66,12 @@ open-ones-spec =
     cast-if1
     slice-aggregate-put
     put-requires
-    slice-aggregate-put-2
-    put-requires-2
-    escaped-requires
     slice-aggregate-fill
     slice-aggregate-fill-2
     fill-requires
     named-requires
-    slice-aggregate-put-3
-    put-requires-3
+    slice-aggregate-put-2
+    put-requires-2
     add-k
     loop-less
     loop-again
