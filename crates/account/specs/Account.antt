@@ -2,14 +2,16 @@
 -- charges until the completion and how each task of its own transaction stands from the critical instant on.
 use mathlib.Core.Path.{_≡_, refl}
 use mathlib.Core.Bool.{cond}
-use mathlib.Core.List.{List, [], _∷_}
+use mathlib.Core.List.{List, [], _∷_, _++_, map}
 use lib.Dec.{ltb}
+use lib.ListN.{take, drop, replicate}
 use lib.Seq.{sets}
 use Prim.Native.Nat.{ℕ, zero, suc, _+_, _*_, _<_}
 use native.Mathlib.Decide.{ℕ-discrete}
 use Rattle.refusals.specs.declared.Refusal.{Refusal}
 use Rattle.table.specs.Limits.{transactionsMost, tasksMost}
 use Rattle.table.specs.Table.{Table, transactions, tasks}
+use Rattle.table.specs.Sample.{S, plain, task, transaction, table}
 use Rattle.periods.specs.Charge.{imposed}
 use Rattle.analysis.specs.Choice.{when}
 use Rattle.analysis.specs.Rival.{rival?}
@@ -18,6 +20,7 @@ use Rattle.analysis.specs.Order.{Turn, Source}
 use Rattle.analysis.specs.Who.{mostCharged}
 use Rattle.analysis.specs.Parts.{MadeOf}
 use Rattle.analysis.specs.Answer.{Answer, bound, named, Answers}
+use Rattle.analysis.specs.Computing.{computing}
 use Rattle.told.specs.declared.TaskCells.{TaskCells}
 use Rattle.told.specs.Answered.{cellsMeant}
 use Rattle.told.specs.Told.{Owed}
@@ -76,6 +79,14 @@ shareOf tab u a x w j =
       ticks = when (rival? tab u a u (x .mode) j) (taskCharge imposed tab u (x .mode) (x .candidate) w j);
     }
 
+-- One transaction, T 10: task 1, at offset 3 with jitter 22, is a rival of task 0. When task 0 sets the instant, two of its jobs are held
+-- back to it, and until the completion at 7 a third is charged; task 0 is none of its own rivals
+rival-shares :
+    map (λ (j : ℕ). shareCells (shareOf (table 10 (transaction 10 1 (plain 0 1 1 10 ∷ task 3 22 0 10 2 (2 ∷ []) ∷ []) ∷ [])) 0 0 (record { mode = 0; candidate = 0 }) 7 j)) (0 ∷ 1 ∷ [])
+    ≡ (0 ∷ 0 ∷ 0 ∷ []) ∷ (3 ∷ 2 ∷ 6 ∷ []) ∷ []
+unfolding computing shareOf
+rival-shares = refl
+
 -- the cells were `before` and are `after`: what each other transaction charges task a of u until w, and how each task of u stands
 pub record Lays (tab : Table) (u a : ℕ) (x : Turn) (w : ℕ) (before after : List ℕ) : Type 0 where
   pub charges : ℕ → Part
@@ -97,6 +108,14 @@ unfoldable pub laidFor : Table → (u a : ℕ) (x : Turn) (w : ℕ) (before : Li
 laidFor tab u a x w before =
     laid sharesCell (tasks tab u) (λ j. shareCells (shareOf tab u a x w j))
     (laid chargesCell (transactions tab) (λ i. chargeCells (chargeOf tab u a w i)) before)
+
+-- S, task 2, which completes at 5: transaction 0 charges 3 in mode 0, with task 0 as candidate; its own transaction charges nothing beside
+-- it, and the cells of that and of further transactions stay
+S-laid :
+    take 7 (laidFor S 1 0 (record { mode = 0; candidate = 0 }) 5 (replicate accountCells 9)) ++ take 4 (drop sharesCell (laidFor S 1 0 (record { mode = 0; candidate = 0 }) 5 (replicate accountCells 9)))
+    ≡ 3 ∷ 0 ∷ 0 ∷ 9 ∷ 9 ∷ 9 ∷ 9 ∷ 0 ∷ 0 ∷ 0 ∷ 9 ∷ []
+unfolding computing partSaid laid shareOf unlessOwn chargeOf laidFor
+S-laid = refl
 
 -- task a of u with its cells, and the lent ones after: it has no bound, and they stay; or it has one, of these parts
 pub data AccountFor (budget : ℕ) (before : List ℕ) (tab : Table) (u a : ℕ) : Account × List ℕ → Type 0 where

@@ -60,7 +60,7 @@ module _ {tab : Table} (keeps : Kept tab) {u a : ℕ} (isTask : IsTask tab u a) 
       let (e, f) = bound-by-unique (v .by) (w .by) in
       parts-unique (subst₂ (λ (R : ℕ) (z : Source). MadeOf tab u a R z p) f e v) w
 
-  made-for : {budget : ℕ} {r q : Made} → MadeFor budget tab u a r → MadeFor budget tab u a q → r ≡ q
+  pub made-for : {budget : ℕ} {r q : Made} → MadeFor budget tab u a r → MadeFor budget tab u a q → r ≡ q
   made-for (MadeFor.unbounded h n) (MadeFor.unbounded k m) = refl
   made-for (MadeFor.unbounded h n) (MadeFor.bounded k w) = absurd (n _ _ _ (answers-unique keeps isTask h k))
   made-for (MadeFor.bounded h v) (MadeFor.unbounded k m) = absurd (m _ _ _ (answers-unique keeps isTask k h))
