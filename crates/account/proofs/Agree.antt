@@ -1,12 +1,15 @@
--- What is told of one task by one walk agrees with the other calls: what its bound is made of, its cells, and the part of each transaction.
-use mathlib.Core.Path.{_≡_, sym, ap, _∙_}
+-- What is told of one task by one walk agrees with the other calls: what its bound is made of, its cells, and the part of each
+-- transaction; and in itself.
+use mathlib.Core.Path.{_≡_, sym, ap, _∙_, subst}
 use mathlib.Core.List.{List}
 use lib.ListN.{length, getD}
 use Prim.Native.Nat.{ℕ, _+_, _*_, _<_}
 use native.Mathlib.Omega.{arith}
 use Rattle.table.specs.Table.{IsTask, transactions, tasks}
 use Rattle.table.specs.Number.{inAll, number}
-use Rattle.table.proofs.Number.{number-lt}
+use Rattle.table.specs.Sum.{sum}
+use Rattle.table.proofs.Sum.{sum-ext}
+use Rattle.table.proofs.Number.{number-lt, number-unique}
 use Rattle.format.specs.Fault.{IsAccepted}
 use Rattle.format.specs.Said.{tableIn}
 use Rattle.format.proofs.Kept.{kept}
@@ -28,8 +31,9 @@ use Rattle.parts.specs.Parts.{OfImage, OfTask, MadeFor, Makes, PartFor, HasPart
 use Rattle.parts.proofs.Unique.{has-part-unique}
 use Rattle.account.specs.declared.Account.{Account}
 use Rattle.account.specs.declared.Account.the-variants as account
-use Rattle.account.specs.Account.{groupCells, chargesCell, sharesCell, accountCells, laid, chargeCells, shareCells, shareOf, AccountFor, refusedWith, Accounts}
-use Rattle.account.proofs.Laid.{charge-short, laid-before, laid-at}
+use Rattle.account.specs.Account.{groupCells, chargesCell, sharesCell, accountCells, chargeCells, AccountFor, refusedWith, Accounts}
+use Rattle.account.proofs.Lays.{lays-charge, lays-share}
+use Rattle.account.proofs.Adds.{shares-add}
 
 -- what is told of its bound
 unfoldable pub madeIn : Account → Made
@@ -52,6 +56,12 @@ Stands : (i k : ℕ) → Charge → Account × List ℕ → Type 0
 Stands i k d (account.Refused refusal at, after) = Unit {0}
 Stands i k d (account.Unbounded c, after) = Unit {0}
 Stands i k d (account.Bounded c p, after) = getD after (chargesCell + groupCells * i + k) 0 ≡ getD (chargeListed d) k 0
+
+-- and the last cells of n places make up what its own rivals charge
+Sums : (n : ℕ) → Account × List ℕ → Type 0
+Sums n (account.Refused refusal at, after) = Unit {0}
+Sums n (account.Unbounded c, after) = Unit {0}
+Sums n (account.Bounded c p, after) = sum n (λ j. getD after (sharesCell + groupCells * j + 2) 0) ≡ p .rivals
 
 module _ {image : List ℕ} {task budget : ℕ} where
   makes : {before : List ℕ} {y : Account × List ℕ} → Tells image task budget before y → Makes image task budget (madeIn (y .0))
@@ -98,15 +108,9 @@ module _ {image : List ℕ} {task budget : ℕ} where
     part-stands long (OfImage.refused e) = tt
     part-stands long (OfImage.accepted ok (OfTask.unknown l)) = tt
     part-stands long (OfImage.accepted ok (OfTask.known isTask numbered (AccountFor.unbounded o h n))) = tt
-    part-stands {before} long (OfImage.accepted ok (OfTask.known {u = u} {a = a} isTask numbered (AccountFor.bounded {x = x} {p = p} o h m l))) =
-        let tab = tableIn image in
+    part-stands long (OfImage.accepted ok (OfTask.known isTask numbered (AccountFor.bounded o h m l))) =
         let one : part.Charged d ≡ l .charges i = has-part-unique has (OfImage.accepted ok (OfTask.known isTask numbered (PartFor.bounded h m (l .each i there)))) in
-        let few = kept image ok .fewTransactions in
-        let q = chargesCell + groupCells * i + k in
-        ap (λ (cells : List ℕ). getD cells q 0) (l .is)
-        ∙ laid-before sharesCell (λ j. shareCells (shareOf tab u a (x .turn) (p .completion) j)) (laid chargesCell (transactions tab) (λ i. chargeCells (l .charges i)) before) (tasks tab u) q (omega arith)
-        ∙ laid-at chargesCell (λ i. chargeCells (l .charges i)) before (transactions tab) (λ j h. charge-short (l .charges j)) (omega arith) i k there (rw (← one) small)
-        ∙ ap (λ (r : Part). getD (chargeCells r) k 0) (sym one)
+        lays-charge (kept image ok) long l i k there (rw (← one) small) ∙ ap (λ (r : Part). getD (chargeCells r) k 0) (sym one)
 
     pub accounts-part :
         {before after : List ℕ} {c : TaskCells} {p : Parts}
@@ -115,3 +119,23 @@ module _ {image : List ℕ} {task budget : ℕ} where
         → getD after (chargesCell + groupCells * i + k) 0 ≡ getD (chargeListed d) k 0
     unfolding Stands
     accounts-part long x = part-stands long x
+
+  -- the ticks of the shares, as they stand there, make up what the rivals of its own transaction charge
+  module _ {u a : ℕ} (isTask : IsTask (tableIn image) u a) (numbered : number (tableIn image) u a ≡ task) where
+    shares-stand : {before : List ℕ} → length before ≡ accountCells → {y : Account × List ℕ} → Tells image task budget before y → Sums (tasks (tableIn image) u) y
+    unfolding Sums
+    shares-stand long (OfImage.refused e) = tt
+    shares-stand long (OfImage.accepted ok (OfTask.unknown l)) = tt
+    shares-stand long (OfImage.accepted ok (OfTask.known other alike (AccountFor.unbounded o h n))) = tt
+    shares-stand long (OfImage.accepted ok (OfTask.known other alike (AccountFor.bounded {p = p} {after = after} o h m l))) =
+        let (e, f) = number-unique (tableIn image) other isTask (alike ∙ sym numbered) in
+        subst (λ (v : ℕ). sum (tasks (tableIn image) v) (λ j. getD after (sharesCell + groupCells * j + 2) 0) ≡ p .rivals) e
+        (sum-ext (tasks (tableIn image) _) (λ j h. lays-share (kept image ok) long l (other .owner) j 2 h (omega arith)) ∙ shares-add m)
+
+    pub accounts-shares :
+        {before after : List ℕ} {c : TaskCells} {p : Parts}
+        → length before ≡ accountCells
+        → Accounts image task budget before after (account.Bounded c p)
+        → sum (tasks (tableIn image) u) (λ j. getD after (sharesCell + groupCells * j + 2) 0) ≡ p .rivals
+    unfolding Sums
+    accounts-shares long x = shares-stand long x

@@ -36,9 +36,9 @@ pub enum Account {
 }
 
 impl Account {
-    // Where the lent cells of a transaction begin, `Charge::COUNT` for each transaction of a table, and where those of a task of the
-    // task's own transaction do, `Share::COUNT` for each place in it: each in the order of the fields. The cells of a transaction
-    // without rivals and of the task's own, and of those that the table does not have, stay as they were.
+    // Where the lent cells begin: `Charge::COUNT` for each transaction of a table, and behind them `Share::COUNT` for each place in the
+    // task's own transaction, in the order of the fields. Those of a transaction without rivals, of the task's own transaction, and of
+    // transactions and places that the table does not have, stay as they were.
     pub const CHARGES: usize = 0;
 
     pub const SHARES: usize = Account::CHARGES + Charge::COUNT * Table::TRANSACTIONS;
