@@ -1,5 +1,5 @@
 -- What is laid into the lent cells: what is computed is what is told, and it stands in its cells.
-use mathlib.Core.Path.{_≡_, refl, ap, sym, _∙_}
+use mathlib.Core.Path.{_≡_, refl, ap, _∙_}
 use mathlib.Core.List.{List}
 use lib.ListN.{length, getD}
 use Prim.Native.Nat.{ℕ, _+_, _*_, _<_}

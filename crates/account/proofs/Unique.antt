@@ -6,7 +6,7 @@ use Rattle.table.specs.Table.{Table, IsTask}
 use Rattle.table.specs.Number.{number}
 use Rattle.table.specs.Kept.{Kept}
 use Rattle.analysis.specs.Answer.{Cells}
-use Rattle.analysis.specs.Order.{Turn, Source}
+use Rattle.analysis.specs.Order.{Source}
 use Rattle.analysis.proofs.Answer.{answers-unique, bound-by-unique}
 use Rattle.told.specs.declared.TaskCells.{TaskCells}
 use Rattle.told.specs.Answered.{cellsMeant}

@@ -20,6 +20,7 @@ use Rattle.analysis.specs.Order.{Turn, Source}
 use Rattle.analysis.specs.Who.{mostCharged}
 use Rattle.analysis.specs.Parts.{MadeOf}
 use Rattle.analysis.specs.Answer.{Answer, bound, named, Answers}
+use Rattle.analysis.specs.Walk.{answer}
 use Rattle.analysis.specs.Computing.{computing}
 use Rattle.told.specs.declared.TaskCells.{TaskCells}
 use Rattle.told.specs.Answered.{cellsMeant}
@@ -81,11 +82,16 @@ shareOf tab u a x w j =
 
 -- One transaction, T 10: task 1, at offset 3 with jitter 22, is a rival of task 0. When task 0 sets the instant, two of its jobs are held
 -- back to it, and until the completion at 7 a third is charged; task 0 is none of its own rivals
-rival-shares :
-    map (λ (j : ℕ). shareCells (shareOf (table 10 (transaction 10 1 (plain 0 1 1 10 ∷ task 3 22 0 10 2 (2 ∷ []) ∷ []) ∷ [])) 0 0 (record { mode = 0; candidate = 0 }) 7 j)) (0 ∷ 1 ∷ [])
-    ≡ (0 ∷ 0 ∷ 0 ∷ []) ∷ (3 ∷ 2 ∷ 6 ∷ []) ∷ []
+abbrev delayed : Table
+delayed = table 10 (transaction 10 1 (plain 0 1 1 10 ∷ task 3 22 0 10 2 (2 ∷ []) ∷ []) ∷ [])
+
+delayed-bound : answer imposed delayed 0 0 20 ≡ bound 7 11 (record { mode = 0; candidate = 0; job = 0 })
+unfolding computing
+delayed-bound = refl
+
+delayed-shares : map (λ (j : ℕ). shareCells (shareOf delayed 0 0 (record { mode = 0; candidate = 0 }) 7 j)) (0 ∷ 1 ∷ []) ≡ (0 ∷ 0 ∷ 0 ∷ []) ∷ (3 ∷ 2 ∷ 6 ∷ []) ∷ []
 unfolding computing shareOf
-rival-shares = refl
+delayed-shares = refl
 
 -- the cells were `before` and are `after`: what each other transaction charges task a of u until w, and how each task of u stands
 pub record Lays (tab : Table) (u a : ℕ) (x : Turn) (w : ℕ) (before after : List ℕ) : Type 0 where
@@ -109,11 +115,12 @@ laidFor tab u a x w before =
     laid sharesCell (tasks tab u) (λ j. shareCells (shareOf tab u a x w j))
     (laid chargesCell (transactions tab) (λ i. chargeCells (chargeOf tab u a w i)) before)
 
--- S, task 2, which completes at 5: transaction 0 charges 3 in mode 0, with task 0 as candidate; its own transaction charges nothing beside
--- it, and the cells of that and of further transactions stay
-S-laid :
-    take 7 (laidFor S 1 0 (record { mode = 0; candidate = 0 }) 5 (replicate accountCells 9)) ++ take 4 (drop sharesCell (laidFor S 1 0 (record { mode = 0; candidate = 0 }) 5 (replicate accountCells 9)))
-    ≡ 3 ∷ 0 ∷ 0 ∷ 9 ∷ 9 ∷ 9 ∷ 9 ∷ 0 ∷ 0 ∷ 0 ∷ 9 ∷ []
+-- S, task 2, which completes at 5: transaction 0 charges 3 in mode 0, with task 0 as candidate; the cells of its own transaction, and of
+-- further ones, stay, and it is no rival of itself
+abbrev cellsS : List ℕ
+cellsS = laidFor S 1 0 (record { mode = 0; candidate = 0 }) 5 (replicate accountCells 9)
+
+S-laid : take 7 cellsS ++ take 4 (drop sharesCell cellsS) ≡ 3 ∷ 0 ∷ 0 ∷ 9 ∷ 9 ∷ 9 ∷ 9 ∷ 0 ∷ 0 ∷ 0 ∷ 9 ∷ []
 unfolding computing partSaid laid shareOf unlessOwn chargeOf laidFor
 S-laid = refl
 

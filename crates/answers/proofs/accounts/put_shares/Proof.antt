@@ -1,5 +1,5 @@
 -- `put_shares` stores the shares of the subject's transaction, place by place. The invariant: the groups of the places before j are laid.
-use mathlib.Core.Path.{_≡_, ap, ap₂, _∙_}
+use mathlib.Core.Path.{_≡_, ap₂, _∙_}
 use mathlib.Core.List.{List}
 use Prim.Native.Nat.{ℕ, _-_, _≤_, _<_}
 use native.Mathlib.Omega.{arith}
@@ -13,7 +13,7 @@ use Rattle.account.specs.declared.Share.{Share}
 use Rattle.account.specs.Account.{sharesCell, shareCells, laid, shareOf, stored}
 use Rattle.account.proofs.Laid.{laid-none, laid-next}
 use Rattle.answers.specs.declared.charges.Subject.{Subject}
-use Rattle.answers.specs.Split.{moment, IsSetting}
+use Rattle.answers.specs.Split.{moment}
 use Rattle.answers.proofs.accounts.put_shares.Statement.{statement}
 use Rattle.answers.proofs.accounts.put_shares.Tie as tie
 

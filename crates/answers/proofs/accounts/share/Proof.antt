@@ -1,7 +1,7 @@
 -- `share` gives phase and held-back jobs as they stand in their cells, and the charge by its weight. All fit, since the charge is at most
 -- its transaction's.
 use borrow.Author.Needs.{needs}
-use mathlib.Core.Path.{_≡_, ap₂, _∙_}
+use mathlib.Core.Path.{_≡_}
 use Prim.Native.Nat.{ℕ, _+_, _*_, _^_, _<_}
 use native.Mathlib.Omega.{arith}
 use mathlib.Core.Bool.{false}
@@ -11,9 +11,9 @@ use Rattle.table.specs.Table.{Table, IsTask}
 use Rattle.periods.specs.Charge.{imposed}
 use Rattle.analysis.specs.Choice.{when}
 use Rattle.analysis.specs.Rival.{rival?}
-use Rattle.analysis.specs.Charge.{phaseOf, heldOf, taskCharge}
+use Rattle.analysis.specs.Charge.{taskCharge}
 use Rattle.table.proofs.Ranges.{period-lt}
-use Rattle.charge.specs.Split.{wholePeriods, restOf}
+use Rattle.charge.specs.Split.{wholePeriods}
 use Rattle.charge.specs.Weight.{weight}
 use Rattle.charge.proofs.Ranges.{held-of-lt, phase-of-lt}
 use Rattle.charge.proofs.Weights.{weight-lt}
