@@ -25,27 +25,13 @@ use Rattle.parts.specs.declared.Charge.{Charge}
 use Rattle.parts.specs.declared.Parts.{Parts}
 use Rattle.parts.specs.declared.Part.{Part}
 use Rattle.parts.specs.declared.Part.the-variants as part
-use Rattle.parts.specs.declared.Made.{Made}
-use Rattle.parts.specs.declared.Made.the-variants as made
 use Rattle.parts.specs.Parts.{OfImage, OfTask, MadeFor, Makes, PartFor, HasPart, chargeListed}
 use Rattle.parts.proofs.Unique.{has-part-unique}
 use Rattle.account.specs.declared.Account.{Account}
 use Rattle.account.specs.declared.Account.the-variants as account
-use Rattle.account.specs.Account.{groupCells, chargesCell, sharesCell, accountCells, chargeCells, AccountFor, refusedWith, Accounts}
+use Rattle.account.specs.Account.{groupCells, chargesCell, sharesCell, accountCells, chargeCells, AccountFor, refusedWith, Accounts, madeIn, OfCells}
 use Rattle.account.proofs.Lays.{lays-charge, lays-share}
 use Rattle.account.proofs.Adds.{shares-add}
-
--- what is told of its bound
-unfoldable pub madeIn : Account → Made
-madeIn (account.Refused refusal at) = made.Refused refusal at
-madeIn (account.Unbounded c) = made.NoBound
-madeIn (account.Bounded c p) = made.Of p
-
--- of the cells that are told, if any
-unfoldable pub OfCells : Account → (TaskCells → Type 0) → Type 0
-OfCells (account.Refused refusal at) P = Unit {0}
-OfCells (account.Unbounded c) P = P c
-OfCells (account.Bounded c p) P = P c
 
 -- whatever is told of the task, with the cells after it
 abbrev Tells : (image : List ℕ) (task budget : ℕ) (before : List ℕ) → Account × List ℕ → Type 0

@@ -26,6 +26,8 @@ use Rattle.told.specs.declared.TaskCells.{TaskCells}
 use Rattle.told.specs.Answered.{cellsMeant}
 use Rattle.told.specs.Told.{Owed}
 use Rattle.parts.specs.declared.Parts.{Parts}
+use Rattle.parts.specs.declared.Made.{Made}
+use Rattle.parts.specs.declared.Made.the-variants as made
 use Rattle.parts.specs.declared.Part.{Part}
 use Rattle.parts.specs.declared.Part.the-variants as part
 use Rattle.parts.specs.Parts.{OfImage, OfTask, NoBound, partsMeant, ChargedBy, partSaid, chargeListed}
@@ -148,3 +150,17 @@ refusedWith before refusal at = (account.Refused refusal at, before)
 abbrev pub Accounts : (image : List ℕ) (task budget : ℕ) (before after : List ℕ) → Account → Type 0
 Accounts image task budget before after r =
     OfImage (refusedWith before) (OfTask (refusedWith before) (AccountFor budget before) task) image (r, after)
+
+-- ---- as the other calls tell it
+
+-- what is told of its bound
+unfoldable pub madeIn : Account → Made
+madeIn (account.Refused refusal at) = made.Refused refusal at
+madeIn (account.Unbounded c) = made.NoBound
+madeIn (account.Bounded c p) = made.Of p
+
+-- of the task's cells, if they are told
+unfoldable pub OfCells : Account → (TaskCells → Type 0) → Type 0
+OfCells (account.Refused refusal at) P = Unit {0}
+OfCells (account.Unbounded c) P = P c
+OfCells (account.Bounded c p) P = P c
