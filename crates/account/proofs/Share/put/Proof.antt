@@ -1,10 +1,13 @@
 -- `Share::put` stores the share in the cells of its place, or nothing.
-use mathlib.Core.Path.{sym}
+use mathlib.Core.Path.{sym, ap₂, _∙_}
+use mathlib.Core.List.{[], _∷_}
+use Prim.Native.Nat.{ℕ, _+_, _*_}
 use native.Mathlib.Omega.{arith}
+use lib.Seq.{sets}
 use denote.Ref.{now}
 use borrow.Author.Needs.{needs}
 use Rattle.table.specs.Limits.{tasksMost}
-use Rattle.account.specs.Account.{sharesCell, shareCells}
+use Rattle.account.specs.Account.{groupCells, sharesCell, shareCells}
 use Rattle.account.proofs.Laid.{stored-there, stored-nowhere}
 use Rattle.account.proofs.Share.put.Statement.{statement}
 use Rattle.account.proofs.Share.put.Tie as tie
@@ -26,8 +29,11 @@ store-requires c κs = search needs
 
 returns : tie.Need-returns
 returns c =
-    let a = c .before .before .before .before .before .args in
-    cc (stored-there sharesCell tasksMost (a .j) (shareCells (a .self)) (now (a .cells)) (omega arith))
+    let w = c .before in
+    let a = w .before .before .before .before .args in
+    c .store .ensures
+    ∙ ap₂ (λ (m n : ℕ). sets (now (a .cells)) (sharesCell + groupCells * a .j) (m ∷ n ∷ a .self .ticks ∷ [])) (w .before .wide .ensures) (w .wide2 .ensures)
+    ∙ sym (stored-there sharesCell tasksMost (a .j) (shareCells (a .self)) (now (a .cells)) (omega arith))
 
 returns-2 : tie.Need-returns-2
 returns-2 c =
