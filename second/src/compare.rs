@@ -118,6 +118,11 @@ impl Counts {
         }
     }
 
+    /// One more image of that sort.
+    pub fn add_image(&mut self, name: &'static str) {
+        *self.images.entry(name).or_default() += 1;
+    }
+
     /// One more task of that sort.
     pub fn add_task(&mut self, name: &'static str) {
         *self.tasks.entry(name).or_default() += 1;

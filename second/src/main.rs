@@ -53,6 +53,8 @@ const HELP: &str = "usage:
   second show --cases N --seed S --program COMMAND...
   second plain --cases N --seed S --program COMMAND...
                                                compare COMMAND's text of each image with our own
+  second page --cases N --seed S --program COMMAND...
+                                               compare the page that COMMAND writes of each image with our own answers
   second write                                 a stream of rows on stdin: one line for each, what is written of it and
                                                read back
   second write --cases N --seed S [--batch K] --program COMMAND...
@@ -157,6 +159,7 @@ fn run(command: &str, mut arguments: Arguments) -> Result<End, Trouble> {
         "words" => text(desk::Text::Words, arguments),
         "show" => text(desk::Text::Show, arguments),
         "plain" => text(desk::Text::Plain, arguments),
+        "page" => page(arguments),
         "simulate" => {
             let wide = arguments.flag("--wide");
             let (runs, seed) = (arguments.number_if_given("--runs")?, arguments.number_if_given("--seed")?);
@@ -202,6 +205,16 @@ fn text(text: desk::Text, mut arguments: Arguments) -> Result<End, Trouble> {
     let name = program[0].to_string_lossy().into_owned();
     let plan = desk::compare::Plan { text, cases, seed, program };
     compared(&name, cases, |watch| desk::compare::compare(&plan, watch))
+}
+
+/// The comparison of many pages.
+fn page(mut arguments: Arguments) -> Result<End, Trouble> {
+    let program = arguments.program()?;
+    let (cases, seed) = (arguments.number("--cases")?, arguments.number("--seed")?);
+    arguments.end()?;
+    let name = program[0].to_string_lossy().into_owned();
+    let plan = desk::page::compare::Plan { cases, seed, program };
+    compared(&name, cases, |watch| desk::page::compare::compare(&plan, watch))
 }
 
 /// Compares with the program of that name, and shows how far it is.

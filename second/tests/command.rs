@@ -52,6 +52,9 @@ fn what_cannot_be_carried_out_is_told_with_status_3() {
         (&["show", "--cases", "1", "--program", "true"], "--seed is missing"),
         (&["words", "--open", "--cases", "1", "--seed", "1", "--program", "true"], "what is --open?"),
         (&["show", "--cases", "1", "--seed", "1", "--program", "/no/program"], "/no/program: "),
+        (&["page", "--cases", "1", "--seed", "1"], "--program is missing"),
+        (&["page"], "--program is missing"),
+        (&["page", "--cases", "1", "--seed", "1", "--program", "/no/program"], "/no/program: "),
         (&["simulate", "/no/file"], "/no/file: "),
         (&["simulate", "/"], "/: "),
         (&["simulate", "--seed", "1"], "--runs is missing"),
@@ -118,6 +121,23 @@ fn a_program_that_answers_otherwise_is_a_difference() {
         let other = compare(&["true"]);
         assert_eq!(other.status.code(), Some(1), "{other:?}");
         assert!(text(&other.stdout).starts_with("difference at seed 1 case 0 "));
+    }
+}
+
+/// What it is started with stands behind its words, and a page that is none is a difference.
+#[test]
+fn a_program_that_writes_no_page_is_a_difference() {
+    let page = |script: &str| output(&["page", "--cases", "9", "--seed", "1", "--program", "sh", "-c", script, "x"]);
+    for (script, told) in [
+        ("true", ": not <!DOCTYPE html> in line 1 of the page"),
+        ("echo '<!DOCTYPE html><p>'; cat <&4 <&5", ": the page is not one html element that ends"),
+        ("echo \"$1 $2 $3 $4 $5\"", ", before 'page - - - 1\n"),
+    ] {
+        let other = page(script);
+        assert_eq!(other.status.code(), Some(1), "{other:?}");
+        assert!(text(&other.stdout).starts_with("difference at seed 1 case 0: "), "{other:?}");
+        assert!(text(&other.stdout).contains(told), "{script}: {other:?}");
+        assert!(text(&other.stdout).contains("\nimage "), "{script}: {other:?}");
     }
 }
 

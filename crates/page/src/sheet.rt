@@ -6,6 +6,8 @@ use super::say;
 use super::spell;
 ghost use Prim.Native.Nat.{_+_, _^_, _<_, _≤_};
 ghost use lib.ListN.{length};
+ghost use mathlib.Core.Path.{_≡_};
+ghost use Rattle.page.specs.Plain.{isPlain};
 ghost use Rattle.page.specs.Whole.{Keeps};
 
 pub const SHEET: usize = 65_536;
@@ -143,12 +145,9 @@ pub fn byte(sheet: &mut [u8; SHEET], pen: Pen, b: u8) -> Pen
     lay(sheet, next, nibble(b))
 }
 
-// The second byte of a character of several bytes, by its first: neither a longer form of a shorter one nor half of a pair, and no
-// control character.
+// The second byte of a character of several bytes, by its first: neither a longer form of a shorter one nor half of a pair.
 fn is_second(first: u8, b: u8) -> bool {
-    let least: u8 = if first == 0xc2 {
-        0xa0
-    } else if first == 0xe0 {
+    let least: u8 = if first == 0xe0 {
         0xa0
     } else if first == 0xf0 {
         0x90
@@ -210,32 +209,54 @@ fn wide(text: &[u8]) -> usize
     n
 }
 
-// One byte of ASCII in a page: what would be markup by its name, and a control character as one that is not known.
+// Whether a byte stands as itself in a page.
+fn is_plain(b: u8) -> bool
+    ensures { λ r. ⌜ r ≡ isPlain b ⌝ }
+{
+    if b < b' ' {
+        return false;
+    }
+    if b'~' < b {
+        return false;
+    }
+    if b == b'"' {
+        return false;
+    }
+    if b == b'&' {
+        return false;
+    }
+    if b == b'\'' {
+        return false;
+    }
+    if b == b'<' {
+        return false;
+    }
+    if b == b'>' {
+        return false;
+    }
+    true
+}
+
+// One byte that is no character of several: as itself, by its name where it would be markup, else as one that is not known.
 fn safe(sheet: &mut [u8; SHEET], pen: Pen, b: u8) -> Pen
     ensures { λ r. ⌜ Keeps (pen .whole) (r .whole) ⌝ }
 {
-    if b == b'&' {
-        return put(sheet, pen, b"&amp;");
+    if is_plain(b) {
+        return lay(sheet, pen, b);
     }
-    if b == b'<' {
-        return put(sheet, pen, b"&lt;");
+    match b {
+        b'"' => put(sheet, pen, b"&quot;"),
+        b'&' => put(sheet, pen, b"&amp;"),
+        b'\'' => put(sheet, pen, b"&#39;"),
+        b'<' => put(sheet, pen, b"&lt;"),
+        b'>' => put(sheet, pen, b"&gt;"),
+        _ => put(sheet, pen, b"&#65533;"),
     }
-    if b == b'>' {
-        return put(sheet, pen, b"&gt;");
-    }
-    if b == b'"' {
-        return put(sheet, pen, b"&quot;");
-    }
-    if b == b'\'' {
-        return put(sheet, pen, b"&#39;");
-    }
-    if b < b' ' {
-        return put(sheet, pen, b"&#65533;");
-    }
-    if b'~' < b {
-        return put(sheet, pen, b"&#65533;");
-    }
-    lay(sheet, pen, b)
+}
+
+// A control character of two bytes.
+fn is_control(first: u8, second: u8) -> bool {
+    (first == 0xc2) & (second < 0xa0)
 }
 
 // The character that begins a text, of n bytes.
@@ -244,6 +265,9 @@ fn character(sheet: &mut [u8; SHEET], pen: Pen, text: &[u8], n: usize) -> Pen
 {
     if 1 < n {
         if n <= text.len() {
+            if is_control(text[0], text[1]) {
+                return put(sheet, pen, b"&#65533;");
+            }
             return put(sheet, pen, &text[..n]);
         }
     }

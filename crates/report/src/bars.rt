@@ -43,13 +43,14 @@ pub(crate) struct Scale {
     pub(crate) step: u64,
 }
 
-// The greatest bound, and how far before its event a critical instant lies.
+// The greatest bound, here or in the table that this one is compared with, and how far before its event a critical instant lies.
 fn bounds(facts: &[u64; Facts::CELLS], tasks: usize) -> Scale {
     let mut shift: u64 = 0;
     let mut span: u64 = 0;
     for k in 0..tasks {
         let bound = facts::fact(facts, k, Facts::BOUND);
         span = facts::greater(span, bound);
+        span = facts::greater(span, facts::fact(facts, k, Facts::OLD));
         shift = facts::greater(
             shift,
             facts::less(facts::fact(facts, k, Facts::COMPLETION), bound),
@@ -210,7 +211,7 @@ pub(crate) fn pieces(
 fn deadline(sheet: &mut [u8; SHEET], pen: Pen, x: Scale, deadline: u64, bound: u64) -> Pen {
     let at = facts::plus(deadline, x.shift);
     if x.span < at {
-        let near = facts::less(x.span, x.span / 80);
+        let near = facts::less(x.span, facts::greater(1, x.span / 80));
         return page::fill(
             sheet,
             pen,

@@ -43,7 +43,7 @@ fn others(
     pen
 }
 
-// A line of the parts that has no candidate of its own.
+// A line of the parts that has no candidate of its own, left out where it is 0 ticks.
 fn part(sheet: &mut [u8; SHEET], pen: Pen, form: &[u8], n: u64, ticks: u64) -> Pen {
     if ticks == 0 {
         return pen;
@@ -84,6 +84,7 @@ fn parts(
     names: &[u8],
     k: usize,
 ) -> Pen {
+    let blocking = facts::fact(facts, k, Facts::BLOCKING);
     let mode = facts::fact(facts, k, Facts::MODE);
     let candidate = facts::index(facts::fact(facts, k, Facts::CANDIDATE));
     let pen = page::put(
@@ -94,9 +95,9 @@ fn parts(
     let pen = part(
         sheet,
         pen,
-        b"<tr><td>blocking@<td><td><td class='v'>$\n",
-        0,
-        facts::fact(facts, k, Facts::BLOCKING),
+        b"<tr><td>blocking<td><td><td class='v'>$\n",
+        blocking,
+        blocking,
     );
     let pen = page::fill(
         sheet,
@@ -144,11 +145,26 @@ fn held_back(sheet: &mut [u8; SHEET], pen: Pen, time: u64, count: u64) -> Pen {
     pen
 }
 
+// One job at its arrival, of the task itself or of a rival.
+fn job(sheet: &mut [u8; SHEET], pen: Pen, itself: bool, at: u64, ticks: u64) -> Pen {
+    let pen = if itself {
+        page::put(sheet, pen, b"<rect class='o'")
+    } else {
+        page::put(sheet, pen, b"<rect class='r'")
+    };
+    page::fill(
+        sheet,
+        pen,
+        b" x='@' y='11' width='@' height='8'/><path class='d' d='M@ 9V21'/>",
+        &[at, ticks, at],
+    )
+}
+
 // So many jobs at their arrivals, as far as the busy time goes.
 fn later(
     sheet: &mut [u8; SHEET],
     pen: Pen,
-    form: &[u8],
+    itself: bool,
     phase: u64,
     period: u64,
     time: u64,
@@ -161,7 +177,7 @@ fn later(
         if at < end {
             let left = facts::less(end, at);
             let ticks = if time < left { time } else { left };
-            pen = page::fill(sheet, pen, form, &[at, ticks, at]);
+            pen = job(sheet, pen, itself, at, ticks);
         }
         at = facts::plus(at, period);
     }
@@ -172,7 +188,7 @@ fn later(
 fn jobs(
     sheet: &mut [u8; SHEET],
     pen: Pen,
-    form: &[u8],
+    itself: bool,
     phase: u64,
     held: u64,
     period: u64,
@@ -182,10 +198,7 @@ fn jobs(
 ) -> Pen {
     let early = if held < most { held } else { most };
     let count = facts::less(most, early);
-    if DRAWN < early {
-        return page::put(sheet, pen, b"too many jobs to draw");
-    }
-    if DRAWN < count {
+    if DRAWN < most {
         return page::put(sheet, pen, b"too many jobs to draw");
     }
     let pen = page::fill(
@@ -195,7 +208,7 @@ fn jobs(
         &[end],
     );
     let pen = held_back(sheet, pen, time, early);
-    let pen = later(sheet, pen, form, phase, period, time, count, end);
+    let pen = later(sheet, pen, itself, phase, period, time, count, end);
     page::put(sheet, pen, b"</svg>")
 }
 
@@ -243,37 +256,18 @@ fn lane(
     } else {
         ticks
     };
+    let most = if itself {
+        facts::plus(facts::fact(facts, k, Facts::JOB), 1)
+    } else {
+        counted(phase, held, period, end)
+    };
     let pen = page::fill(
         sheet,
         pen,
         b"<td class='v'>$<td class='v'>$<td class='v'>$<td>",
         &[phase, held, charge],
     );
-    let pen = if itself {
-        jobs(
-            sheet,
-            pen,
-            b"<rect class='o' x='@' y='11' width='@' height='8'/><path class='d' d='M@ 9V21'/>",
-            phase,
-            held,
-            period,
-            time,
-            facts::plus(facts::fact(facts, k, Facts::JOB), 1),
-            end,
-        )
-    } else {
-        jobs(
-            sheet,
-            pen,
-            b"<rect class='r' x='@' y='11' width='@' height='8'/><path class='d' d='M@ 9V21'/>",
-            phase,
-            held,
-            period,
-            time,
-            counted(phase, held, period, end),
-            end,
-        )
-    };
+    let pen = jobs(sheet, pen, itself, phase, held, period, time, most, end);
     page::put(sheet, pen, b"\n")
 }
 

@@ -46,22 +46,27 @@ pub(crate) fn with(
     }
 }
 
-// How many bounds are greater, less and the same; a task without a bound counts where both have none.
+// How many bounds are the same, greater and less, how many stand in one of the two tables alone, and in neither.
 struct Tally {
+    same: u64,
     more: u64,
     fewer: u64,
-    same: u64,
-    other: u64,
+    one: u64,
+    none: u64,
 }
 
-fn one(t: Tally, bound: u64, old: u64) -> Tally {
+fn counted(t: Tally, bound: u64, old: u64) -> Tally {
     let mut next = t;
     if bound == old {
-        next.same = facts::plus(t.same, 1);
+        if bound == 0 {
+            next.none = facts::plus(t.none, 1);
+        } else {
+            next.same = facts::plus(t.same, 1);
+        }
         return next;
     }
     if (bound == 0) | (old == 0) {
-        next.other = facts::plus(t.other, 1);
+        next.one = facts::plus(t.one, 1);
         return next;
     }
     if old < bound {
@@ -74,13 +79,14 @@ fn one(t: Tally, bound: u64, old: u64) -> Tally {
 
 fn tally_of(facts: &[u64; Facts::CELLS], tasks: usize) -> Tally {
     let mut t = Tally {
+        same: 0,
         more: 0,
         fewer: 0,
-        same: 0,
-        other: 0,
+        one: 0,
+        none: 0,
     };
     for k in 0..tasks {
-        t = one(
+        t = counted(
             t,
             facts::fact(facts, k, Facts::BOUND),
             facts::fact(facts, k, Facts::OLD),
@@ -120,8 +126,8 @@ pub(crate) fn told(
             page::fill(
                 sheet,
                 pen,
-                b"Of $ tasks $ have the same bound as there, $ a greater one, $ a lesser one, and $ have a bound in one of the two alone. A dashed mark is the bound there.",
-                &[tasks as u64, t.same, t.more, t.fewer, t.other],
+                b"Bounds as there: $; greater: $; lesser: $; in one of the two tables alone: $; in neither: $. A dashed mark is the bound there.",
+                &[t.same, t.more, t.fewer, t.one, t.none],
             )
         }
     };

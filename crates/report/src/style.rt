@@ -6,7 +6,7 @@ fn frame(sheet: &mut [u8; SHEET], pen: Pen) -> Pen {
     let pen = page::put(
         sheet,
         pen,
-        b"<style>\n:root{color-scheme:light}*{box-sizing:border-box}\nbody{margin:0 auto;max-width:78rem;padding:1rem;font:15px/1.45 system-ui,-apple-system,'Segoe UI',Roboto,'DejaVu Sans',sans-serif;color:#111;background:#fff}\nh1{font-size:1.6em;line-height:1.2;margin:0 0 .4rem;overflow-wrap:anywhere}h2{font-size:1.15em;margin:1.5rem 0 .4rem}p{margin:.3rem 0;max-width:62rem}a{color:inherit}\narticle{margin:0 0 2.5rem}article+article{border-top:3px double #555;padding-top:1.2rem}\n",
+        b"<style>\n:root{color-scheme:light}*{box-sizing:border-box}\nbody{margin:0 auto;max-width:78rem;padding:1rem;font:15px/1.45 system-ui,-apple-system,'Segoe UI',Roboto,'DejaVu Sans',sans-serif;color:#111;background:#fff}\nh1{font-size:1.6em;line-height:1.2;margin:0 0 .4rem;overflow-wrap:anywhere}h2{font-size:1.15em;margin:1.5rem 0 .4rem}p{margin:.3rem 0;max-width:62rem}a{color:inherit}\nheader{margin:0 0 2rem}article{margin:0 0 2.5rem}article+article{border-top:3px double #555;padding-top:1.2rem}\n",
     );
     page::put(
         sheet,

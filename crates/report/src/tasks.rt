@@ -100,7 +100,11 @@ fn change(sheet: &mut [u8; SHEET], pen: Pen, facts: &[u64; Facts::CELLS], k: usi
     let bound = facts::fact(facts, k, Facts::BOUND);
     let old = facts::fact(facts, k, Facts::OLD);
     if old == bound {
-        return page::put(sheet, pen, b"<span class='c'>as before</span>");
+        return if bound == 0 {
+            page::put(sheet, pen, b"<span class='c'>had none either</span>")
+        } else {
+            page::put(sheet, pen, b"<span class='c'>as before</span>")
+        };
     }
     if old == 0 {
         return page::put(sheet, pen, b"<span class='c'><b>had no bound</b></span>");

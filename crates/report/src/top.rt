@@ -3,6 +3,7 @@ use super::facts;
 use super::facts::Facts;
 use super::style;
 use super::tasks;
+use image::Reading;
 use page::Pen;
 use page::SHEET;
 use row::Table;
@@ -29,8 +30,11 @@ fn word(sheet: &mut [u8; SHEET], pen: Pen, n: u32) -> Pen {
     page::byte(sheet, pen, (n % 256) as u8)
 }
 
-// The sum of an image.
+// The sum of an image. Of one that is longer than any table the rest was not read.
 pub(crate) fn sum(sheet: &mut [u8; SHEET], pen: Pen, image: &[u8]) -> Pen {
+    if Reading::LONGEST < image.len() {
+        return page::put(sheet, pen, b"not known: not all of its bytes were read");
+    }
     let words = sha256::sum(image);
     let mut pen = page::put(sheet, pen, b"<span class='sum'>");
     for i in 0..8 {
@@ -48,12 +52,21 @@ pub(crate) fn heading(sheet: &mut [u8; SHEET], pen: Pen, key: u64, name: &[u8]) 
 
 // The bytes of a table, for the list of its facts.
 pub(crate) fn bytes(sheet: &mut [u8; SHEET], pen: Pen, image: &[u8]) -> Pen {
-    let pen = page::fill(
-        sheet,
-        pen,
-        b"<dl>\n<dt>image<dd>$ bytes\n<dt>SHA-256<dd>",
-        &[image.len() as u64],
-    );
+    let pen = if Reading::LONGEST < image.len() {
+        page::fill(
+            sheet,
+            pen,
+            b"<dl>\n<dt>bytes<dd>more than $, which no table has\n<dt>SHA-256<dd>",
+            &[Reading::LONGEST as u64],
+        )
+    } else {
+        page::fill(
+            sheet,
+            pen,
+            b"<dl>\n<dt>bytes<dd>$\n<dt>SHA-256<dd>",
+            &[image.len() as u64],
+        )
+    };
     let pen = sum(sheet, pen, image);
     page::put(sheet, pen, b"\n")
 }

@@ -2,6 +2,7 @@
 //! accepted image and for a refused one.
 
 pub mod compare;
+pub mod page;
 pub mod place;
 pub mod plain;
 pub mod refused;

@@ -1,5 +1,6 @@
 //! Cases for a comparison: a budget and an image. Case `index` of a seed depends on nothing else.
 
+pub mod crowded;
 pub mod damage;
 pub mod deadline;
 pub mod full;

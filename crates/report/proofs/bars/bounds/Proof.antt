@@ -22,11 +22,17 @@ greater-requires c κs = search needs
 fact-requires-2 : tie.Need-fact-requires-2 Inv-loop μ-loop
 fact-requires-2 c κs = search needs
 
+greater-requires-2 : tie.Need-greater-requires-2 Inv-loop μ-loop
+greater-requires-2 c κs = search needs
+
+fact-requires-3 : tie.Need-fact-requires-3 Inv-loop μ-loop
+fact-requires-3 c κs = search needs
+
 less-requires : tie.Need-less-requires Inv-loop μ-loop
 less-requires c κs = search needs
 
-greater-requires-2 : tie.Need-greater-requires-2 Inv-loop μ-loop
-greater-requires-2 c κs = search needs
+greater-requires-3 : tie.Need-greater-requires-3 Inv-loop μ-loop
+greater-requires-3 c κs = search needs
 
 add-k : tie.Need-add-k Inv-loop μ-loop
 add-k c = search needs
@@ -50,8 +56,10 @@ bounds-spec =
     fact-requires
     greater-requires
     fact-requires-2
-    less-requires
     greater-requires-2
+    fact-requires-3
+    less-requires
+    greater-requires-3
     add-k
     loop-less
     loop-again

@@ -5,10 +5,10 @@ use Rattle.report.proofs.busy.later.Statement.{statement}
 use Rattle.report.proofs.busy.later.Tie as tie
 
 abbrev Inv-loop : tie.InvT-loop
-Inv-loop sheet₀ form phase period time count end pen₀ at₀ n₀ sheet pen at n = n ≤ count
+Inv-loop sheet₀ itself phase period time count end pen₀ at₀ n₀ sheet pen at n = n ≤ count
 
 abbrev μ-loop : tie.MeasureT-loop
-μ-loop sheet₀ form phase period time count end pen₀ at₀ n₀ sheet pen at n = count - n
+μ-loop sheet₀ itself phase period time count end pen₀ at₀ n₀ sheet pen at n = count - n
 
 loop-holds : tie.Need-loop-holds Inv-loop μ-loop
 loop-holds c = search needs
@@ -16,11 +16,8 @@ loop-holds c = search needs
 less-requires : tie.Need-less-requires Inv-loop μ-loop
 less-requires c κs = search needs
 
-slice-aggregate-fill : tie.Need-slice-aggregate-fill Inv-loop μ-loop
-slice-aggregate-fill c = search needs
-
-fill-requires : tie.Need-fill-requires Inv-loop μ-loop
-fill-requires c κs = search needs
+job-requires : tie.Need-job-requires Inv-loop μ-loop
+job-requires c κs = search needs
 
 plus-requires : tie.Need-plus-requires Inv-loop μ-loop
 plus-requires c κs = search needs
@@ -45,8 +42,7 @@ later-spec =
     μ-loop
     loop-holds
     less-requires
-    slice-aggregate-fill
-    fill-requires
+    job-requires
     plus-requires
     add-n
     loop-less

@@ -19,8 +19,8 @@ fact-requires c κs = search needs
 fact-requires-2 : tie.Need-fact-requires-2 Inv-loop μ-loop
 fact-requires-2 c κs = search needs
 
-one-requires : tie.Need-one-requires Inv-loop μ-loop
-one-requires c κs = search needs
+counted-requires : tie.Need-counted-requires Inv-loop μ-loop
+counted-requires c κs = search needs
 
 add-k : tie.Need-add-k Inv-loop μ-loop
 add-k c = search needs
@@ -43,7 +43,7 @@ tally-of-spec =
     loop-holds
     fact-requires
     fact-requires-2
-    one-requires
+    counted-requires
     add-k
     loop-less
     loop-again

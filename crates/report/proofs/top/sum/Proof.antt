@@ -5,19 +5,28 @@ use Rattle.report.proofs.top.sum.Statement.{statement}
 use Rattle.report.proofs.top.sum.Tie as tie
 
 abbrev Inv-loop : tie.InvT-loop
-Inv-loop sheet₀ image words pen₀ i₀ t8 sheet pen i = i ≤ 8
+Inv-loop sheet₀ image words pen₀ i₀ t9 sheet pen i = i ≤ 8
 
 abbrev μ-loop : tie.MeasureT-loop
-μ-loop sheet₀ image words pen₀ i₀ t8 sheet pen i = 8 - i
-
-sum-requires : tie.Need-sum-requires Inv-loop μ-loop
-sum-requires c κs = search needs
+μ-loop sheet₀ image words pen₀ i₀ t9 sheet pen i = 8 - i
 
 slice-aggregate-put : tie.Need-slice-aggregate-put Inv-loop μ-loop
 slice-aggregate-put c = search needs
 
 put-requires : tie.Need-put-requires Inv-loop μ-loop
 put-requires c κs = search needs
+
+returns : tie.Need-returns Inv-loop μ-loop
+returns c = search needs
+
+sum-requires : tie.Need-sum-requires Inv-loop μ-loop
+sum-requires c κs = search needs
+
+slice-aggregate-put-2 : tie.Need-slice-aggregate-put-2 Inv-loop μ-loop
+slice-aggregate-put-2 c = search needs
+
+put-requires-2 : tie.Need-put-requires-2 Inv-loop μ-loop
+put-requires-2 c κs = search needs
 
 loop-holds : tie.Need-loop-holds Inv-loop μ-loop
 loop-holds c = search needs
@@ -40,14 +49,14 @@ loop-less c = search needs
 loop-again : tie.Need-loop-again Inv-loop μ-loop
 loop-again c = search needs
 
-slice-aggregate-put-2 : tie.Need-slice-aggregate-put-2 Inv-loop μ-loop
-slice-aggregate-put-2 c = search needs
+slice-aggregate-put-3 : tie.Need-slice-aggregate-put-3 Inv-loop μ-loop
+slice-aggregate-put-3 c = search needs
 
-put-requires-2 : tie.Need-put-requires-2 Inv-loop μ-loop
-put-requires-2 c κs = search needs
+put-requires-3 : tie.Need-put-requires-3 Inv-loop μ-loop
+put-requires-3 c κs = search needs
 
-returns : tie.Need-returns Inv-loop μ-loop
-returns c = search needs
+returns-2 : tie.Need-returns-2 Inv-loop μ-loop
+returns-2 c = search needs
 
 pub sum-spec : {M : Type 1} → statement M
 sum-spec =
@@ -55,9 +64,12 @@ sum-spec =
     (tie.spec
     Inv-loop
     μ-loop
-    sum-requires
     slice-aggregate-put
     put-requires
+    returns
+    sum-requires
+    slice-aggregate-put-2
+    put-requires-2
     loop-holds
     mul-word
     array-read-word
@@ -65,6 +77,6 @@ sum-spec =
     add-i
     loop-less
     loop-again
-    slice-aggregate-put-2
-    put-requires-2
-    returns)
+    slice-aggregate-put-3
+    put-requires-3
+    returns-2)
