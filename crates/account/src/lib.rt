@@ -1,5 +1,7 @@
 // What a caller is told of one task by one walk: its cells, what its bound is made of, and in lent cells what each other transaction
 // charges in it and how the tasks of its own transaction stand from the critical instant on. How an answer is found is not known here.
+#![tactic(auto)]
+
 ghost use Rattle.std.specs.Prelude.{◌≡◌, [], ◌∷◌, ◌+◌, ◌≤◌};
 ghost use Rattle.std.proofs.lemmas.List.Edits.{sets};
 ghost use Rattle.table.specs.Limits.{transactions_most, tasks_most};
@@ -12,7 +14,7 @@ use told::TaskCells;
 
 // What one task of its own transaction charges the task under analysis, when the candidate that gives the bound sets the critical
 // instant.
-#[derive(Drop)]
+#[derive(Clone, Copy)]
 pub struct Share {
     // Ticks from the instant to its first later arrival.
     pub phase: u32,
@@ -23,7 +25,7 @@ pub struct Share {
 }
 
 // What is told of one task.
-#[derive(Drop)]
+#[derive(Clone, Copy)]
 pub enum Account {
     // Refused, by document 01's number and place; every cell stays as it was.
     Refused(Refusal, usize),

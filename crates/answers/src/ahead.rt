@@ -18,7 +18,7 @@ use super::{chains, overload, reads};
 use row::Table;
 
 // Where a chain goes on after that many evaluations, and where its mark is.
-#[derive(Drop)]
+#[derive(Clone, Copy)]
 pub(crate) struct Ahead {
     pub(crate) t: Ticks,
     pub(crate) evaluations: u32,

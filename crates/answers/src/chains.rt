@@ -20,7 +20,7 @@ use super::{ahead, charges, reads};
 use row::Table;
 
 // One turn of the walk: a mode and a candidate, with what of the subject they fix.
-#[derive(Drop)]
+#[derive(Clone, Copy)]
 pub(crate) struct Instant {
     pub(crate) mode: usize,
     pub(crate) candidate: usize,
@@ -33,7 +33,7 @@ pub(crate) struct Instant {
 }
 
 // How a chain with a budget ended, and the evaluations made so far.
-#[derive(Drop)]
+#[derive(Clone, Copy)]
 pub(crate) enum Stop {
     Came(Ticks, u32),
     Over(u32),

@@ -19,7 +19,7 @@ use super::reads;
 use row::{Table, Transaction};
 
 // The task under analysis: task a of transaction u, with its priority.
-#[derive(Drop)]
+#[derive(Clone, Copy)]
 pub(crate) struct Subject {
     pub(crate) u: usize,
     pub(crate) a: usize,
@@ -76,7 +76,7 @@ fn after(t: u32, phase: u32) -> u32
 }
 
 // A transaction at one t: t split by its period, the number of its first task, and how many tasks it has.
-#[derive(Drop)]
+#[derive(Clone, Copy)]
 pub(crate) struct Split {
     pub(crate) first: usize,
     pub(crate) count: usize,

@@ -1,7 +1,7 @@
 // The work cells: the table's row, and behind it what is worked out of it once, so that an evaluation reads it.
 use row::{Table, Transaction};
 
-#[derive(Drop)]
+#[derive(Clone, Copy)]
 pub(crate) struct Work;
 
 impl Work {

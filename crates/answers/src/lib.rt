@@ -1,6 +1,8 @@
 // How late can each task finish, and who pushed it? The cells of every task of an image, the C host's number for one task, what a
 // bound is made of, what a transaction charges, and all of it for one task. The layers below speak to each other inside this crate, and
 // learn of an image only what `image::read_in_front` promises: its table's row is read right into the front of the work cells.
+#![tactic(auto)]
+
 ghost use Rattle.std.specs.Prelude.{◌≡◌, length};
 ghost use Rattle.row.specs.Row.{table_of, RowOfTable};
 ghost use Rattle.answers.specs.Work.{work_cells};

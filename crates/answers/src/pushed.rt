@@ -62,7 +62,7 @@ fn parts_of(work: &[u32; Work::CELLS], s: Subject, bound: u32, by: Source) -> Pa
 }
 
 // An answer, and of a bound the job that gives it and its parts.
-#[derive(Drop)]
+#[derive(Clone, Copy)]
 pub(crate) enum Explained {
     Unbounded(TaskAnswer),
     Bounded(TaskAnswer, Source, Parts),

@@ -2,17 +2,17 @@
 // the last job by t is asked for.
 
 // A time, or a length of time, from the critical instant on.
-#[derive(Drop)]
+#[derive(Clone, Copy)]
 pub(crate) struct Ticks(pub(crate) u64);
 
 // A count of jobs.
-#[derive(Drop)]
+#[derive(Clone, Copy)]
 pub(crate) struct Jobs(pub(crate) u64);
 
 // The number of a job of the task under analysis; 0 or below for those held back to the instant.
-#[derive(Drop)]
+#[derive(Clone, Copy)]
 pub(crate) struct JobNumber(pub(crate) i64);
 
 // A tick that may lie before the critical instant.
-#[derive(Drop)]
+#[derive(Clone, Copy)]
 pub(crate) struct Moment(pub(crate) i64);

@@ -21,7 +21,7 @@ use super::quantity::{JobNumber, Jobs, Moment, Ticks};
 use super::{chains, links, reads};
 
 // A job of the walk: mode, candidate, and the job counted from the candidate's first.
-#[derive(Drop)]
+#[derive(Clone, Copy)]
 pub(crate) struct Source {
     pub(crate) mode: usize,
     pub(crate) candidate: usize,
@@ -29,21 +29,21 @@ pub(crate) struct Source {
 }
 
 // A response, and the job that has it.
-#[derive(Drop)]
+#[derive(Clone, Copy)]
 pub(crate) struct Best {
     pub(crate) response: Ticks,
     pub(crate) source: Source,
 }
 
 // The evaluations made so far, and the greatest response so far.
-#[derive(Drop)]
+#[derive(Clone, Copy)]
 pub(crate) struct Walk {
     pub(crate) used: u32,
     pub(crate) best: Best,
 }
 
 // How far a walk came: through, past the horizon, or short of budget.
-#[derive(Drop)]
+#[derive(Clone, Copy)]
 pub(crate) enum Walked {
     Through(Walk),
     Past(u32),

@@ -17,14 +17,14 @@ use super::quantity::Ticks;
 use super::{charges, links, reads};
 
 // A mode, and a candidate by its place in its transaction.
-#[derive(Drop)]
+#[derive(Clone, Copy)]
 pub(crate) struct Turn {
     pub(crate) mode: usize,
     pub(crate) candidate: usize,
 }
 
 // Nobody, or a charge with the mode and the candidate that give it.
-#[derive(Drop)]
+#[derive(Clone, Copy)]
 pub(crate) enum Most {
     Nobody,
     Charged(Ticks, Turn),

@@ -1,6 +1,8 @@
 // Who pushed a task: the part of one transaction in its bound, asked one transaction at a time, and each answer for a host in C, as one
 // number and, where there is something to give, the cells of it; the cells of every task too, which say who gave each bound. It knows
 // what the answers promise, and not how they are found.
+#![tactic(auto)]
+
 ghost use Rattle.std.specs.Prelude.{◌≡◌, ◌<◌, ◌^◌};
 ghost use Rattle.parts.specs.Parts.{Makes, ChargesOne, HasPart, part_number, part_place, part_cells};
 ghost use Rattle.told.specs.Told.{paired};

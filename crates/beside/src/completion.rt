@@ -12,7 +12,7 @@ ghost use Rattle.beside.specs.Search.{IsPass, Finds};
 use super::{reads, requests};
 use row::Table;
 
-#[derive(Drop)]
+#[derive(Clone, Copy)]
 pub(crate) enum Found {
     At(u64),
     Nothing,
@@ -20,7 +20,7 @@ pub(crate) enum Found {
 
 // What a pass over the first rivals finds at t: all that they request, and a line below what they request from t on: in a major frame's time
 // slope·s + jitters + frame·level at s.
-#[derive(Drop)]
+#[derive(Clone, Copy)]
 struct Pass {
     all: u64,
     slope: u64,

@@ -1,6 +1,8 @@
 // The plain jitter analysis of source document 003 beside document 01's: the response of one task of an image, and the linear
 // approximation of what it requests, each also for a host in C. Of an image it knows what `image::read_into` promises; of document 01's
 // answers it knows only how a number and a place are told to C.
+#![tactic(auto)]
+
 ghost use Rattle.std.specs.Prelude.{◌≡◌, ◌<◌, ◌≤◌};
 ghost use Rattle.row.specs.Row.{table_of, RowOfTable};
 ghost use Rattle.table.specs.Number.{in_all};
@@ -20,7 +22,7 @@ mod requests;
 use completion::Found;
 
 // The plain response of one task.
-#[derive(Drop)]
+#[derive(Clone, Copy)]
 pub enum Response {
     // In ticks: the completion plus the jitter.
     Of(u32),
@@ -30,7 +32,7 @@ pub enum Response {
 }
 
 // The approximation of what one task requests by t.
-#[derive(Drop)]
+#[derive(Clone, Copy)]
 pub enum Approximation {
     // In T-ths of a tick, T being the task's period.
     Of(u64),
@@ -39,7 +41,7 @@ pub enum Approximation {
 }
 
 // What both refuse first.
-#[derive(Drop)]
+#[derive(Clone, Copy)]
 enum Opened {
     // The table of the image, whose transactions have one task and one mode each, stands in the row, and has that task.
     Row,

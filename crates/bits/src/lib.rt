@@ -1,10 +1,12 @@
 // Fields of an image: a number of any width from 1 to 32 bits at any bit position of a byte slice, most significant bit
 // first. It knows bytes and bits alone: nothing of tables, of places or of refusals.
+#![tactic(auto)]
+
 ghost use Rattle.std.specs.Prelude.{◌≡◌, ◌+◌, ◌-◌, ◌*◌, ◌/◌, ◌%◌, ◌^◌, ◌<◌, ◌≤◌, min, length, get_or};
 ghost use Rattle.bits.specs.Bits.{widest, value_at, is_inside, field_at};
 
 // What stands in a field.
-#[derive(Drop)]
+#[derive(Clone, Copy)]
 pub enum Field {
     Holds(u32),
     // The image ends inside the field, or before it.
@@ -34,7 +36,7 @@ pub fn inside(image: &[u8], at: usize, width: usize) -> bool
 
 // An image and a place in it. The functions over it are few and thin: each takes the reader apart, and leaves the work to
 // a function over the image and the place.
-#[derive(Drop)]
+#[derive(Clone, Copy)]
 pub struct Reader<'a> {
     pub image: &'a [u8],
     pub at: usize,

@@ -2,6 +2,8 @@
 // input is case after case: budget, 4 bytes most significant first; cells that are lent, 2 bytes; length of the image, 2
 // bytes; the image. A line for each: the answer's number and place, the number for the C host of the first task, and every
 // cell, which holds 7 before the call.
+#![tactic(auto)]
+
 ghost use Rattle.std.specs.Prelude.{◌<◌};
 
 use libc::{STDIN_FILENO, STDOUT_FILENO};

@@ -1,5 +1,7 @@
 // Whole cycles of a chain at once: that a chain which has gone through one cycle goes through it again, as laws, and how many
 // more cycles there are to count. It knows tables as numbers, and neither a row nor how an evaluation is made.
+#![tactic(auto)]
+
 ghost use Rattle.std.specs.Prelude.{◌≡◌, min};
 ghost use Rattle.cycle.specs.Cycle.{times, Rounds};
 

@@ -1,5 +1,7 @@
 // A table for an editor in C: read from an image into lent cells, and written from them, each with one number for the answer. It
 // knows what reading and writing promise, and not how they are done.
+#![tactic(auto)]
+
 ghost use Rattle.row.specs.Row.{table_of};
 ghost use Rattle.editor.specs.Editor.{Takes, Gives};
 

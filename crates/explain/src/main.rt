@@ -1,4 +1,6 @@
 // The listing in columns and words, for the table on standard input, with who pushed a task, and a last line over all tasks.
+#![tactic(auto)]
+
 ghost use Rattle.std.specs.Prelude.{◌≡◌, ◌+◌, ◌^◌, ◌<◌};
 
 use output::{Verdict, Words};
@@ -10,7 +12,7 @@ use sumpcandle::{Filled, TaskCells};
 const FAR: u64 = 4_294_967_296;
 
 // What is told of a task, with bound 0 where there is none, who gave the bound, and its deadline.
-#[derive(Drop)]
+#[derive(Clone, Copy)]
 struct Line {
     code: u32,
     bound: u32,
@@ -22,7 +24,7 @@ struct Line {
 
 // Of the tasks so far: how many are in time and how many are not shown to be, which of these is worst and how far it is above,
 // and which of the others has the least to spare.
-#[derive(Drop)]
+#[derive(Clone, Copy)]
 struct Summary {
     kept: u64,
     open: u64,

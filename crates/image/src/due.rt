@@ -5,7 +5,7 @@ use super::parts::greatest_time;
 use places::Spot;
 use row::Task;
 
-#[derive(Drop)]
+#[derive(Clone, Copy)]
 pub enum Due {
     // Its offset, its greatest time and its deadline.
     Of(u32, u32, u32),

@@ -1,5 +1,7 @@
 // Reading an image: any bytes give a table or a refusal, by document 01's number and place. It knows bits, places and
 // the limits of a table; it knows nothing of interference, of bounds or of what a table is read for.
+#![tactic(auto)]
+
 ghost use Rattle.std.specs.Prelude.{◌≡◌};
 ghost use Rattle.format.specs.Fault.{image_fault};
 ghost use Rattle.format.specs.Places.{longest_image};
@@ -15,7 +17,7 @@ mod parts;
 mod scan;
 
 // What is said of an image, and beside it the table: the empty one where the image is refused.
-#[derive(Drop)]
+#[derive(Clone, Copy)]
 pub struct Reading {
     pub answer: Answer,
     pub table: Table,

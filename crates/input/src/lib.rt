@@ -1,5 +1,7 @@
 // One image from standard input, and under which budget it is asked. No contract can say which bytes a read gives, or that it
 // failed; what is promised is that the count lies within the buffer, and that nothing fails where there is no room to read.
+#![tactic(auto)]
+
 ghost use Rattle.std.specs.Prelude.{length};
 ghost use Rattle.input.specs.Input.{Within};
 
@@ -12,7 +14,7 @@ pub const BUFFER: usize = Reading::LONGEST + 1;
 // The programs' budget. The C header has it too, held to this one by tools/header.
 pub const BUDGET: u32 = 100_000_000;
 
-#[derive(Drop)]
+#[derive(Clone, Copy)]
 pub enum Input {
     // That many bytes stand in the buffer.
     Bytes(usize),

@@ -1,5 +1,7 @@
 // The technician's listing: a line for each task of the table on standard input, or the refusal. All that matters is in
 // the library; what is printed is held to stored output by the check.
+#![tactic(auto)]
+
 use output::{Verdict, Words};
 use row::Table;
 use sumpcandle::{Filled, TaskCells};

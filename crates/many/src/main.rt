@@ -1,6 +1,8 @@
 // Answers many images in one run, for comparison with a second program. Standard input is case after case: budget, 4
 // bytes most significant first; length of the image, 2 bytes; the image. A line for each: `accepted` and the cells of its tasks,
 // or `refused`, number and place. A case that is cut short ends the run.
+#![tactic(auto)]
+
 ghost use Rattle.std.specs.Prelude.{◌*◌, ◌<◌, ◌≤◌, length};
 ghost use Rattle.table.specs.Limits.{tasks_in_all};
 ghost use Rattle.told.specs.Cells.{cells_of_task};

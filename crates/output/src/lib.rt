@@ -1,5 +1,7 @@
 // How a program begins, writes and ends: the words that it is started with, the image, an answer with every failed write noticed,
 // and a verdict. It knows the refusals and the fields of an image; it knows nothing of the analysis.
+#![tactic(auto)]
+
 mod refusing;
 mod words;
 
@@ -17,7 +19,7 @@ use words::{Asked, given};
 const VERDICT_FILENO: i32 = 3;
 
 // What a program found, for the runner.
-#[derive(Drop)]
+#[derive(Clone, Copy)]
 pub enum Verdict {
     // Accepted, and every task keeps its deadline or none was asked for.
     Kept,
@@ -34,7 +36,7 @@ fn failed(name: &[u8], what: &[u8]) {
 
 // How a program began: the words that it was given, and how many bytes of the image stand in the buffer. Where it is not ready,
 // standard error says why.
-#[derive(Drop)]
+#[derive(Clone, Copy)]
 pub struct Begun {
     pub words: Words,
     pub ready: bool,

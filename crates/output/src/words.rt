@@ -5,7 +5,7 @@ use libc::STDERR_FILENO;
 const MOST: usize = 32;
 
 // Which words: those that a program knows, or those that it was given.
-#[derive(Drop)]
+#[derive(Clone, Copy)]
 pub struct Words {
     pub verdict: bool,
     pub open: bool,
@@ -15,7 +15,7 @@ pub struct Words {
     pub explain: bool,
 }
 
-#[derive(Drop)]
+#[derive(Clone, Copy)]
 pub(crate) enum Asked {
     Known(Words),
     // Some word is not known, and standard error says which.

@@ -1,5 +1,7 @@
 // Writing to standard output. Each writer is told whether every write so far was taken, writes only then, and says the same of
 // its own: behind a write that failed nothing is written, and errno keeps its reason to the program's end.
+#![tactic(auto)]
+
 mod sheet;
 
 ghost use Rattle.std.specs.Prelude.{◌<◌};

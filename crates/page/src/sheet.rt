@@ -8,7 +8,7 @@ use super::{DIGITS, WIDEST, say, spell};
 
 pub const SHEET: usize = 65_536;
 
-#[derive(Drop)]
+#[derive(Clone, Copy)]
 pub struct Pen {
     pub at: usize,
     pub whole: bool,

@@ -1,5 +1,7 @@
 // What a caller is told of who pushed a task: what its bound is made of, and what one transaction charges it. Every answer is an enum
 // with a case for each thing that can be so; how an answer is found is not known here.
+#![tactic(auto)]
+
 ghost use Rattle.std.specs.Prelude.{◌≡◌, [], ◌∷◌, pos};
 ghost use Rattle.std.proofs.lemmas.List.Edits.{sets};
 ghost use Rattle.parts.specs.Parts.{parts_listed, made_number, made_place, made_cells, charge_listed, part_number, part_place, part_cells};
@@ -8,7 +10,7 @@ use refusals::Refusal;
 
 // In ticks from the critical instant on: when the job that gives the bound completes, and when it arrived, before the instant
 // where it was held back; and what is charged until it completes, beside what the other transactions charge.
-#[derive(Drop)]
+#[derive(Clone, Copy)]
 pub struct Parts {
     pub completion: u32,
     pub arrival: i64,
@@ -54,7 +56,7 @@ fn store_four(cells: &mut [i64; Parts::COUNT], a: u32, b: u32, c: u32, d: u32)
 }
 
 // What the bound of one task is made of.
-#[derive(Drop)]
+#[derive(Clone, Copy)]
 pub enum Made {
     // Refused, by document 01's number and place.
     Refused(Refusal, usize),
@@ -64,7 +66,7 @@ pub enum Made {
 }
 
 // The greatest charge of a transaction, with the mode and the number of the candidate that give it.
-#[derive(Drop)]
+#[derive(Clone, Copy)]
 pub struct Charge {
     pub ticks: u64,
     pub mode: u32,
@@ -85,7 +87,7 @@ impl Charge {
 }
 
 // What one transaction charges one task.
-#[derive(Drop)]
+#[derive(Clone, Copy)]
 pub enum Part {
     // Refused, by document 01's number and place.
     Refused(Refusal, usize),

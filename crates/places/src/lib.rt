@@ -1,5 +1,7 @@
 // Which field of an image, and which task, holds a bit position, for any bytes and any position: what a refusal's place is called at the
 // desk. It knows the places of an image's fields; it knows nothing of how an image is read, or of what a field is for.
+#![tactic(auto)]
+
 ghost use Rattle.std.specs.Prelude.{◌≡◌, ◌+◌, ◌^◌, ◌<◌, ◌≤◌};
 ghost use Rattle.format.specs.Places.{first_at, task_width};
 ghost use Rattle.format.specs.Said.{modes_in, tasks_in};
@@ -10,7 +12,7 @@ ghost use Rattle.places.specs.Find.{header_field_at, head_field_at, task_field_a
 use row::{Table, Task, Transaction};
 
 // A field of an image: by the number of its transaction, the number of its task in the whole table, and the mode of a time.
-#[derive(Drop)]
+#[derive(Clone, Copy)]
 pub enum Field {
     Edition,
     Frame,
@@ -29,14 +31,14 @@ pub enum Field {
 }
 
 // Where a task starts, as a bit position, and how many modes it has.
-#[derive(Drop)]
+#[derive(Clone, Copy)]
 pub enum Spot {
     Task(usize, usize),
     NoTask,
 }
 
 // A transaction of an image: its number, how many tasks stand before it, its modes, and where it starts.
-#[derive(Drop)]
+#[derive(Clone, Copy)]
 enum Owner {
     Transaction(usize, usize, usize, usize),
     Behind,

@@ -1,5 +1,7 @@
 // The plain jitter analysis beside the listing, for the table on standard input: of each task the code and the bound, and its plain
 // response; with the word `explain` in words, and a last line over all tasks. All that matters is in the library.
+#![tactic(auto)]
+
 ghost use Rattle.std.specs.Prelude.{◌≡◌, ◌+◌, ◌^◌, ◌<◌};
 
 use beside::Response;
@@ -9,7 +11,7 @@ use row::Table;
 use sumpcandle::{Filled, TaskCells};
 
 // What both analyses say of a task: code and bound, which is 0 where there is none; and 0 and the response, or a refusal's number and 0.
-#[derive(Drop)]
+#[derive(Clone, Copy)]
 struct Line {
     code: u32,
     bound: u32,
@@ -20,7 +22,7 @@ struct Line {
 }
 
 // Of the tasks so far: those whose bound is response + offset, those whose bound is above that, and those that lack one of the two.
-#[derive(Drop)]
+#[derive(Clone, Copy)]
 struct Summary {
     agree: u64,
     above: u64,

@@ -1,4 +1,6 @@
 // Whether bytes are a text, as a hex dump is. No accepted image is one: its first byte is 16 to 31.
+#![tactic(auto)]
+
 ghost use Rattle.std.specs.Prelude.{◌≡◌};
 ghost use Rattle.printable.specs.Text.{in_text, is_text};
 

@@ -1,5 +1,7 @@
 // The other direction of `bits`: a number of any width up to 32 bits, put at any bit position of a byte slice, most significant
 // bit first. It knows bytes and bits alone: nothing of tables, of places or of refusals.
+#![tactic(auto)]
+
 ghost use Rattle.std.specs.Prelude.{◌≡◌, ◌+◌, ◌-◌, ◌*◌, ◌/◌, ◌%◌, ◌^◌, ◌≤◌, ◌<◌, min};
 ghost use Rattle.bits.specs.Bits.{widest, field_bits};
 ghost use Rattle.bits.specs.Put.{bits_put};

@@ -1,6 +1,8 @@
 // Worked images, and what reading says of each. Standard input has an image to a line, in hexadecimal, each below a line
 // that starts with '#' and says what it shows. Such a line is copied; an image gives its number and place, and where it
 // is accepted the fields of its table, read through the lent row.
+#![tactic(auto)]
+
 ghost use Rattle.std.specs.Prelude.{◌≤◌, ◌<◌, ◌^◌, length};
 
 use libc::STDOUT_FILENO;

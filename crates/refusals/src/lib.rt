@@ -1,10 +1,12 @@
 // What is said of a table: accepted, or refused with its first fault, by the number and the place of document 01. Every refusal that a
 // caller may get stands here once; it knows nothing of what is refused.
+#![tactic(auto)]
+
 ghost use Rattle.std.specs.Prelude.{◌≡◌};
 ghost use Rattle.refusals.specs.Answer.{refusal_number, plain_number, answer_number, answer_place, is_accepted, ◌then◌, checked};
 
 // Why an image, a table or a call is refused, in the order of the documents' numbers.
-#[derive(Drop)]
+#[derive(Clone, Copy)]
 pub enum Refusal {
     EndsInside,
     EditionUnknown,
@@ -25,14 +27,14 @@ pub enum Refusal {
 }
 
 // And why the plain analysis is, where the table is not.
-#[derive(Drop)]
+#[derive(Clone, Copy)]
 pub enum PlainRefusal {
     NotSingle,
     NoCompletion,
     OutOfRange,
 }
 
-#[derive(Drop)]
+#[derive(Clone, Copy)]
 pub enum Answer {
     Accepted,
     Refused(Refusal, usize),

@@ -3,7 +3,7 @@
 // PIECE is page, a whole page of one table; entry, one of several tables, its line of the summary first; top, middle or bottom, what stands
 // around these. VERDICT, NAMES and AGAINST are that word where a verdict is asked for, where names stand on descriptor 4, and where the
 // image to compare with stands on descriptor 5; else anything. KEY is a number that tells tables of one page apart, NAME and OLD are what is shown.
-#[derive(Drop)]
+#[derive(Clone, Copy)]
 pub(crate) struct Asked {
     pub(crate) entry: bool,
     pub(crate) verdict: bool,

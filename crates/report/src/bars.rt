@@ -36,7 +36,7 @@ const STEPS: [u64; 25] = [
 ];
 
 // An axis that begins `shift` ticks before the event.
-#[derive(Drop)]
+#[derive(Clone, Copy)]
 pub(crate) struct Scale {
     pub(crate) shift: u64,
     pub(crate) span: u64,

@@ -5,7 +5,7 @@ use page::{Pen, SHEET};
 use sumpcandle::Filled;
 
 // How it stands with the table to compare with.
-#[derive(Drop)]
+#[derive(Clone, Copy)]
 pub(crate) enum Old {
     // None was asked for.
     None,
@@ -45,7 +45,7 @@ pub(crate) fn with(
 }
 
 // How many bounds are the same, greater and less, how many stand in one of the two tables alone, and in neither.
-#[derive(Drop)]
+#[derive(Clone, Copy)]
 struct Tally {
     same: u64,
     more: u64,

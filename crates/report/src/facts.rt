@@ -6,7 +6,7 @@ use account::Account;
 use parts::Charge;
 use row::Table;
 
-#[derive(Drop)]
+#[derive(Clone, Copy)]
 pub(crate) struct Facts;
 
 impl Facts {

@@ -1,5 +1,7 @@
 // A page for the log: what a table is, what is known of its deadlines, and a bar for each task, as one page of HTML that needs nothing
 // from outside. It prints and decides nothing: every number of a task is the library's.
+#![tactic(auto)]
+
 mod asked;
 mod bars;
 mod busy;
@@ -44,7 +46,7 @@ fn words(verdict: bool) -> Words {
 }
 
 // How many bytes a descriptor gave, and whether it could be read.
-#[derive(Drop)]
+#[derive(Clone, Copy)]
 struct Taken {
     fully: bool,
     n: usize,

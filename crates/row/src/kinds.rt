@@ -6,7 +6,7 @@ ghost use Rattle.row.specs.Row.{empty_row};
 
 // A table as one flat row, which is lent below as `&[u32; Table::CELLS]`: a header, then the transactions, then the tasks
 // in image order.
-#[derive(Drop)]
+#[derive(Clone, Copy)]
 pub struct Table {
     pub cells: [u32; Table::CELLS],
 }
@@ -75,7 +75,7 @@ impl Table {
 }
 
 // What stands before the tasks of a transaction.
-#[derive(Drop)]
+#[derive(Clone, Copy)]
 pub struct Transaction {
     pub period: u32,
     pub modes: usize,
@@ -125,7 +125,7 @@ impl Transaction {
 }
 
 // What stands before the times of a task.
-#[derive(Drop)]
+#[derive(Clone, Copy)]
 pub struct Task {
     pub offset: u32,
     pub jitter: u32,

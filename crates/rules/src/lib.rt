@@ -1,5 +1,7 @@
 // A table's rules in code, once: what is asked of a number by itself, whoever brings it. Each function is the check of one field,
 // refused at its place. It knows the limits of a table; it knows nothing of bits, of images or of rows' cells.
+#![tactic(auto)]
+
 ghost use Rattle.std.specs.Prelude.{◌≡◌, ◌&&◌, ◌+◌, max, leb, eqb};
 ghost use Rattle.refusals.specs.Answer.{checked};
 ghost use Rattle.refusals.specs.declared.Refusal.TheVariants.{EditionUnknown, FrameZero, TransactionCount, PeriodUnfit, ModeCount, TaskCount, DeadlineZero, NeverRuns, DeadlineShort};

@@ -1,4 +1,6 @@
 // The sum of some bytes by SHA-256, as FIPS 180-4 has it. It knows bytes and words alone, and holds one block's words at a time.
+#![tactic(auto)]
+
 ghost use Rattle.std.specs.Prelude.{◌≡◌, ◌^◌, ◌<◌, length, slice_index};
 ghost use Rattle.sha256.specs.Words as words;
 ghost use Rattle.sha256.specs.Message as message;
@@ -7,7 +9,7 @@ ghost use Rattle.sha256.specs.Sum as sums;
 use std::num::wrapping_add_u32;
 
 // The eight words of a hash value, and the working variables, which are as many.
-#[derive(Drop)]
+#[derive(Clone, Copy)]
 struct State {
     a: u32,
     b: u32,

@@ -1,4 +1,6 @@
 // The table on standard input as text, in the words of document 02's item 9: what a later export writes.
+#![tactic(auto)]
+
 use output::{Verdict, Words};
 use refusals::Answer;
 use row::Table;

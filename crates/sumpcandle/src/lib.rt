@@ -4,6 +4,8 @@
 // told of one task, by one walk; `parts`, what the bound of one task is made of; `part`, the part of one transaction in it; `charge`, what
 // one transaction charges a task by t; `plain`, the response of one task by the plain jitter analysis; `approximate`, the linear
 // approximation of what it requests by t.
+#![tactic(auto)]
+
 ghost use Rattle.row.specs.Row.{table_of};
 ghost use Rattle.told.specs.Told.{Fills, Responds};
 ghost use Rattle.editor.specs.Editor.{Takes, Gives};

@@ -1,5 +1,7 @@
 // What a caller is told: the cells of each task, what became of the cells that were lent, and the C host's number. Each code
 // is named here, and the cells of a task are counted here; how an answer is found is not known here.
+#![tactic(auto)]
+
 ghost use Rattle.std.specs.Prelude.{◌≡◌, length};
 ghost use Rattle.analysis.specs.Answer.{cells, unbounded};
 ghost use Rattle.told.specs.Cells.{has_room, listed, stored, are_kept};
@@ -9,7 +11,7 @@ ghost use Rattle.told.specs.Told.{filled_number, filled_place, paired};
 use refusals::Refusal;
 
 // What became of the cells that a caller lent.
-#[derive(Drop)]
+#[derive(Clone, Copy)]
 pub enum Filled {
     // That many tasks have their cells.
     Done(usize),
@@ -38,7 +40,7 @@ impl Filled {
 }
 
 // Who gave a bound: the mode, the candidate's number in the whole table, and the job, counted from the candidate's first.
-#[derive(Drop)]
+#[derive(Clone, Copy)]
 pub struct Named {
     pub mode: u32,
     pub candidate: u32,
@@ -46,7 +48,7 @@ pub struct Named {
 }
 
 // What is found of one task.
-#[derive(Drop)]
+#[derive(Clone, Copy)]
 pub enum TaskAnswer {
     // The bound, the evaluations, and who gave it.
     Bound(u32, u32, Named),
@@ -82,7 +84,7 @@ impl TaskAnswer {
 }
 
 // What a caller gets of one task: document 01's code, the bound or 0, the evaluations, and who gave the bound.
-#[derive(Drop)]
+#[derive(Clone, Copy)]
 pub struct TaskCells {
     pub code: u32,
     pub bound: u32,

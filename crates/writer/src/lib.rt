@@ -1,5 +1,7 @@
 // Writing a table: any row of numbers gives the image of document 01, or a refusal by its number and the place that the field would
 // have had. It knows a table's fields and bits; it knows nothing of how an image is read.
+#![tactic(auto)]
+
 ghost use Rattle.std.specs.Prelude.{◌≡◌};
 ghost use Rattle.row.specs.Row.{table_of};
 ghost use Rattle.writer.specs.Write.{writing_number, writing_place, Writes};
@@ -10,7 +12,7 @@ mod lay;
 mod scan;
 
 // What became of a table that was to be written.
-#[derive(Drop)]
+#[derive(Clone, Copy)]
 pub enum Writing {
     // The image has that many bytes, and they are the buffer's first.
     Written(usize),
