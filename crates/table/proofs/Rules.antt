@@ -91,7 +91,7 @@ module _ (limits : Limits) {join : Answer → Answer → Answer} (joins : Joins 
       record {
         there =
             λ f.
-            elim f [
+            elim f as (λ f. look.finding f ≡ Accepted) [
               | HeaderField.edition ↦ rule-there joins look HeaderField.edition _ _ at-edition
               | HeaderField.frame ↦ rule-there joins look HeaderField.frame _ _ at-frame
               | HeaderField.count ↦ rule-there joins look HeaderField.count _ _ at_count
@@ -126,7 +126,7 @@ module _ (limits : Limits) {join : Answer → Answer → Answer} (joins : Joins 
         record {
           there =
               λ f.
-              elim f [
+              elim f as (λ f. look.finding f ≡ Accepted) [
                 | HeadField.period ↦ rule-there joins look HeadField.period _ _ at-period
                 | HeadField.modes ↦ rule-there joins look HeadField.modes _ _ at-modes
                 | HeadField.tasks ↦ rule-there joins look HeadField.tasks _ _ at-tasks
@@ -164,7 +164,7 @@ module _ (deadlines : Deadlines) {join : Answer → Answer → Answer} (joins : 
       record {
         there =
             λ f.
-            elim f [
+            elim f as (λ f. IsTaskField many f → look.finding f ≡ Accepted) [
               | TaskField.offset ↦ λ within. joins.first _ _ h₆
               | TaskField.jitter ↦ λ within. joins.second _ _ h₆
               | TaskField.blocking ↦ λ within. joins.second _ _ h₅
