@@ -22,7 +22,7 @@ use Rattle.analysis.proofs.Order.{turn-setting}
 use Rattle.analysis.proofs.Charges.{Fair, imposed-fair}
 use Rattle.analysis.proofs.Walk.{TurnsWalked, TurnsEnd, turns-end, turns-enough, turns-short, turns-needed}
 use Rattle.analysis.proofs.Before.{source-orders}
-use Rattle.analysis.proofs.First.{first-unique, best_of}
+use Rattle.analysis.proofs.First.{first-unique, best_over}
 use Rattle.analysis.proofs.Greatest.{walk-bound, walk-past}
 
 -- ---- the evaluations needed
@@ -57,7 +57,7 @@ pub data Walks (later : Later) (tab : Table) (u a budget : ℕ) : Answer → Typ
   overloaded : Overload tab u a → Walks later tab u a budget overload
   short : {n : ℕ} {met : List Best} {o : Outcome} → ¬ (Overload tab u a) → TurnsWalked later tab u a (walk_order tab u a) n met o → budget < n → Walks later tab u a budget (spent budget)
   past : {n : ℕ} {met : List Best} → ¬ (Overload tab u a) → TurnsWalked later tab u a (walk_order tab u a) n met past_horizon → n ≤ budget → Walks later tab u a budget (beyond n)
-  kept : {n R : ℕ} {by : Named} {met : List Best} → ¬ (Overload tab u a) → TurnsWalked later tab u a (walk_order tab u a) n met bounded → n ≤ budget → (best_of nothing met).response ≡ R → named tab u (best_of nothing met).source ≡ by → Walks later tab u a budget (bound R n by)
+  kept : {n R : ℕ} {by : Named} {met : List Best} → ¬ (Overload tab u a) → TurnsWalked later tab u a (walk_order tab u a) n met bounded → n ≤ budget → (best_over nothing met).response ≡ R → named tab u (best_over nothing met).source ≡ by → Walks later tab u a budget (bound R n by)
 
 module _ (later : Later) (tab : Table) (u a budget : ℕ) where
   walked : Answer
@@ -120,7 +120,7 @@ module _ {tab : Table} (kept-tab : Kept tab) {u a : ℕ} (is_task : IsTask tab u
 
   -- and otherwise there is a bound
   pub outcome-bounded : {n : ℕ} → Needed tab u a (walk_order tab u a) n bounded → (R : ℕ) × Bound imposed tab u a R
-  outcome-bounded needed = let (met, turns) = needed-turns needed in ((best_of nothing met).response, (walk-bound imposed-fair kept-tab is_task turns).bound)
+  outcome-bounded needed = let (met, turns) = needed-turns needed in ((best_over nothing met).response, (walk-bound imposed-fair kept-tab is_task turns).bound)
 
   pub past-outcome : {n : ℕ} {o : Outcome} → Needed tab u a (walk_order tab u a) n o → {m c : ℕ} → Setting tab u a m c → ((t : ℕ) → 1 ≤ t → t ≤ horizon → ¬ (busy tab u a m c t ≤ t)) → o ≡ past_horizon
   past-outcome {n} {o} needed {m} {c} setting none = go o needed
@@ -154,7 +154,7 @@ module _ {tab : Table} (kept-tab : Kept tab) {u a : ℕ} (is_task : IsTask tab u
     where
       go : {n : ℕ} → Walks later tab u a budget (bound R n by) → (x : Source) × (named tab u x ≡ by) × BoundBy later tab u a R x
       go (kept {met = met} free turns l r f) =
-          let x = (best_of nothing met).source in
+          let x = (best_over nothing met).source in
           (x, f, subst (λ (q : ℕ). BoundBy later tab u a q x) r (walk-bound fair kept-tab is_task turns))
 
   pub answer-bound : {later : Later} → Fair later → (budget : ℕ) {R n : ℕ} {by : Named} → answer later tab u a budget ≡ bound R n by → Bound later tab u a R

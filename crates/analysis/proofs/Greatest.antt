@@ -26,7 +26,7 @@ use Rattle.analysis.specs.Needed.{job, Outcome, bounded, past_horizon}
 use Rattle.analysis.specs.Who.{Responds, BoundBy}
 use Rattle.analysis.specs.Walk.{Best, nothing, answered}
 use Rattle.analysis.proofs.Choice.{least-unique}
-use Rattle.analysis.proofs.First.{Ascending, ascending-append, BestBefore, best_of, best-most, best-first}
+use Rattle.analysis.proofs.First.{Ascending, ascending-append, BestBefore, best_over, best-most, best-first}
 use Rattle.analysis.proofs.Order.{setting-turn, turn-setting, walk-ascends}
 use Rattle.analysis.proofs.Signed.{count-some, count-le}
 use Rattle.analysis.proofs.Charges.{Fair}
@@ -140,7 +140,7 @@ module _ {later : Later} (fair : Fair later) {tab : Table} (kept : Kept tab) {u 
 
   module _ {n : ℕ} {met : List Best} (turns : TurnsWalked later tab u a (walk_order tab u a) n met bounded) where
     abbrev pub best : Best
-    best = best_of nothing met
+    best = best_over nothing met
 
     within : (m c : ℕ) → Setting tab u a m c → Within tab u a m c
     within m c setting =

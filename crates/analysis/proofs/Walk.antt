@@ -18,7 +18,7 @@ use Rattle.analysis.specs.Walk as W
 use Rattle.analysis.specs.Walk.{Best, better, answered, through, chain, beyond?, never?, Walked, walk_jobs, walk_turn, walk_turns}
 use Rattle.analysis.proofs.Chain.{Ends, chain-enough, chain-short}
 use Rattle.analysis.proofs.Charges.{Fair}
-use Rattle.analysis.proofs.First.{best_of, best-append}
+use Rattle.analysis.proofs.First.{best_over, best-append}
 use Rattle.analysis.proofs.Turn.{LengthChain, JobChain, busy-ends, busy-length, queued-completes}
 
 -- the jobs N, N + 1, .., `todo` of them, make n evaluations, and these are their responses
@@ -49,8 +49,8 @@ module _ (later : Later) (tab : Table) (u a : ℕ) where
   unfolding walk_jobs
   job-short m c todo N h left best l = rw (chain-short (demand later tab u a m c (job tab u a c N)) never? h left l, walk_jobs) refl
 
-  jobs-enough : {m c todo N n : ℕ} {met : List Best} → JobsWalked later tab u a m c todo N n met → (left : ℕ) (best : Best) → n ≤ left → walk_jobs later tab u a m c todo N left best ≡ through (left - n) (best_of best met)
-  unfolding walk_jobs best_of
+  jobs-enough : {m c todo N n : ℕ} {met : List Best} → JobsWalked later tab u a m c todo N n met → (left : ℕ) (best : Best) → n ≤ left → walk_jobs later tab u a m c todo N left best ≡ through (left - n) (best_over best met)
+  unfolding walk_jobs best_over
   jobs-enough none left best l = ap₂ through (omega arith) refl
   jobs-enough {m} {c} (one {todo = todo} {N = N} {n = n} {k = k} {w = w} h rest) left best l =
       job-step m c todo N h left best (omega arith)
@@ -79,14 +79,14 @@ module _ (later : Later) (tab : Table) (u a : ℕ) where
   unfolding walk_turn
   turn-short s h left best l = rw (chain-short (busy tab u a s.mode s.candidate) beyond? h left l, walk_turn) refl
 
-  pub turns-enough : {order : List Turn} {n : ℕ} {met : List Best} {o : Outcome} → TurnsWalked later tab u a order n met o → (left : ℕ) (best : Best) → n ≤ left → walk_turns later tab u a order left best ≡ reached o (left - n) (best_of best met)
-  unfolding walk_turns best_of
+  pub turns-enough : {order : List Turn} {n : ℕ} {met : List Best} {o : Outcome} → TurnsWalked later tab u a order n met o → (left : ℕ) (best : Best) → n ≤ left → walk_turns later tab u a order left best ≡ reached o (left - n) (best_over best met)
+  unfolding walk_turns best_over
   turns-enough none left best l = ap₂ through (omega arith) refl
   turns-enough (past {s = s} h) left best l = rw (turn-past s h left best l, walk_turns) refl
   turns-enough (turn {s = s} {n = n} {k = k} {jobs = b} {met = d} {o = o} h jobs rest) left best l =
-      let first : walk_turn later tab u a s left best ≡ through (left - n - k) (best_of best b) = turn-came s h left best (omega arith) ∙ jobs-enough jobs (left - n) best (omega arith) in
+      let first : walk_turn later tab u a s left best ≡ through (left - n - k) (best_over best b) = turn-came s h left best (omega arith) ∙ jobs-enough jobs (left - n) best (omega arith) in
       rw (first, walk_turns)
-      (turns-enough rest (left - n - k) (best_of best b) (omega arith) ∙ ap₂ (reached o) (omega arith) (sym (best-append best b d)))
+      (turns-enough rest (left - n - k) (best_over best b) (omega arith) ∙ ap₂ (reached o) (omega arith) (sym (best-append best b d)))
 
   pub turns-short : {order : List Turn} {n : ℕ} {met : List Best} {o : Outcome} → TurnsWalked later tab u a order n met o → (left : ℕ) (best : Best) → left < n → walk_turns later tab u a order left best ≡ W.short
   unfolding walk_turns
@@ -101,8 +101,8 @@ module _ (later : Later) (tab : Table) (u a : ℕ) where
           let first : walk_turn later tab u a s left best ≡ W.short = turn-came s h left best p ∙ jobs-short jobs (left - n) best (omega arith) in
           rw (first, walk_turns) refl
       go (yes p) (yes q) more =
-          let first : walk_turn later tab u a s left best ≡ through (left - n - k) (best_of best b) = turn-came s h left best p ∙ jobs-enough jobs (left - n) best q in
-          rw (first, walk_turns) (more (left - n - k) (best_of best b) (omega arith))
+          let first : walk_turn later tab u a s left best ≡ through (left - n - k) (best_over best b) = turn-came s h left best p ∙ jobs-enough jobs (left - n) best q in
+          rw (first, walk_turns) (more (left - n - k) (best_over best b) (omega arith))
 
 -- ---- the walk is always defined
 

@@ -23,6 +23,7 @@ module _ {image : List ℕ} {task budget i : ℕ} where
   pub part-refused : {refusal : Refusal} {at : ℕ} → Makes image task budget (made.Refused refusal at) → HasPart image task budget i (part.Refused refusal at)
   part-refused (OfImage.refused e) = OfImage.refused e
   part-refused (OfImage.accepted ok (OfTask.unknown l)) = OfImage.accepted ok (OfTask.unknown l)
+  part-refused (OfImage.accepted ok (OfTask.known is_task numbered h)) = elim h [ ]
 
   pub part_none : Makes image task budget made.NoBound → HasPart image task budget i part.NoBound
   part_none (OfImage.accepted ok (OfTask.known is_task numbered (MadeFor.unbounded h n))) =

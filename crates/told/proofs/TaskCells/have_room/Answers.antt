@@ -2,12 +2,8 @@
 use native.Mathlib.Omega.{arith}
 use borrow.Author.Tests.{leb-true, leb-false}
 use Rattle.bits.proofs.Tests.{same_test}
-use Rattle.told.proofs.TaskCells.have_room.Statement.{statement}
-use Rattle.told.proofs.TaskCells.have_room.Tie as tie
+use Rattle.told.proofs.TaskCells.have_room.Goals as goal
 
-returns : tie.Need-returns
+pub returns : goal.returns
 returns c =
     same_test _ _ (λ h k. omega (arith, leb-true, leb-false)) (λ h k. omega (arith, leb-true, leb-false))
-
-pub have-room-spec : {M : Type 1} → statement M
-have-room-spec = tie.close (tie.spec returns)
