@@ -1,5 +1,5 @@
 -- FIPS 180-4, section 6.2.2: the message schedule, the rounds, and the sum of a message.
-use Rattle.std.specs.Prelude.{◌≡◌, ℕ, zero, suc, ◌+◌, ◌-◌, ◌*◌, ◌/◌, Bool, true, false, List, [], ◌∷◌, ◌++◌, length, nat_lt, slice_index, slice_index_or, refl}
+use Rattle.std.specs.Prelude.{◌≡◌, ℕ, zero, suc, ◌+◌, ◌-◌, ◌*◌, ◌/◌, Bool, true, false, List, [], ◌∷◌, ◌++◌, length, nat_lt, slice_index, refl}
 use Rattle.sha256.specs.declared.State.{State}
 use Rattle.sha256.specs.Words.{◌⊞◌, rotr, Ch, Maj, Σ0, Σ1, σ0, σ1}
 use Rattle.sha256.specs.Constants.{K, H0}
@@ -13,7 +13,7 @@ pick false x y = y
 unfoldable pub next_word : List ℕ → ℕ → List ℕ → ℕ → ℕ
 next_word p i w t =
     pick (nat_lt t 16) (word_of p (16 * i + t))
-    (σ1 (slice_index w (t - 2)) ⊞ slice_index_or w (t - 7) 0 ⊞ σ0 (slice_index w (t - 15)) ⊞ slice_index_or w (t - 16) 0)
+    (σ1 (slice_index w (t - 2)) ⊞ slice_index w (t - 7) ⊞ σ0 (slice_index w (t - 15)) ⊞ slice_index w (t - 16))
 
 -- the words before W_t, and W_t
 abbrev pub extended : List ℕ → ℕ → List ℕ → ℕ → List ℕ
