@@ -1,7 +1,6 @@
 -- Groups of cells that are laid one behind the other, as a loop stores them.
 use mathlib.Core.Path.{◌≡◌, refl, ap₂, ◌∙◌}
 use mathlib.Core.List.{List, [], ◌∷◌}
-use mathlib.Core.Logic.{⊎_elim}
 use native.Mathlib.Nat.{add-zero, add-suc, suc-add}
 use native.Mathlib.Decide.{dec_lt}
 use Prim.Native.Nat.{ℕ, zero, suc, ◌+◌, ◌*◌, ◌≤◌, ◌<◌}
@@ -9,12 +8,10 @@ use native.Mathlib.Numerals.{add-one}
 use native.Mathlib.Omega.{arith}
 use lib.ListN.{length, get_or, set, length-set}
 use lib.Seq.{sets, length-sets, get_or-set_same, get_or-set_other}
-use denote.Enum.Declared.{tag_of}
-use types.Run.{OneOf}
 use borrow.Author.Tests.{lt-ltb, le-ltb}
+use Rattle.parts.specs.declared.Charge.{Charge}
 use Rattle.parts.specs.declared.Part.{Part}
 use Rattle.parts.specs.declared.Part.TheVariants as part
-use Rattle.parts.specs.contracts.Part.{the_type}
 use Rattle.account.specs.Account.{group_cells, stored, laid, charge_cells}
 
 module _ (at count i : ℕ) (group before : List ℕ) where
@@ -42,15 +39,13 @@ sets-in (v ∷ vs) l i (suc k) h room =
 -- ---- groups
 
 -- any case of a transaction's answer but the last charges nothing
-pub no-charge : (x : Part) → OneOf (0 ∷ 1 ∷ 2 ∷ 3 ∷ 4 ∷ []) (tag_of the_type x) → charge_cells x ≡ []
+pub no-charge : (x : Part) → ((c : Charge) → x ≡ part.Charged c → ⊥) → charge_cells x ≡ []
 no-charge (part.Refused refusal at) k = refl
 no-charge part.NoBound k = refl
 no-charge part.Own k = refl
 no-charge part.NoTransaction k = refl
 no-charge part.NoRivals k = refl
-no-charge (part.Charged c) k =
-    let never : ⊥ = ⊎_elim (λ e. omega arith) (⊎_elim (λ e. omega arith) (⊎_elim (λ e. omega arith) (⊎_elim (λ e. omega arith) (λ e. omega arith)))) k in
-    absurd never
+no-charge (part.Charged c) k = absurd (k c refl)
 
 pub charge-short : (x : Part) → length (charge_cells x) ≤ group_cells
 charge-short (part.Refused refusal at) = omega arith
