@@ -1,7 +1,6 @@
 -- Of a writer that writes only where all is whole, whatever its write gives.
 use mathlib.Core.Bool.{Bool, true, false, false≢true}
 use mathlib.Core.Path.{◌≡◌}
-use Prim.Native.Nat.{ℕ, ◌≤◌}
 use native.Mathlib.Omega.{arith}
 use Rattle.page.specs.Whole.{taken, Keeps}
 

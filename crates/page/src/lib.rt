@@ -1,13 +1,14 @@
 // Writing to standard output. Each writer is told whether every write so far was taken, writes only then, and says the same of
-// its own: behind a write that failed nothing is written, and errno keeps its reason to the program's end.
+// its own: behind a write that failed nothing is written, and the handle keeps its reason to the program's end.
 #![tactic(auto)]
 
+mod handle;
 mod sheet;
 
 ghost use Rattle.std.specs.Prelude.{◌<◌};
 ghost use Rattle.page.specs.Whole.{Keeps};
 
-use libc::STDOUT_FILENO;
+pub use handle::Out;
 pub use sheet::{Pen, SHEET, byte, escaped, fill, flush, put};
 
 // The digits that a number may have, and its places with the commas between them.
@@ -18,14 +19,10 @@ const WIDEST: usize = 26;
 // The width of a column of numbers that are aligned.
 const ALIGNED: usize = 9;
 
-pub fn say(whole: bool, text: &[u8]) -> bool
+pub fn say(out: &mut Out, whole: bool, text: &[u8]) -> bool
     ensures { Keeps whole result }
 {
-    if whole {
-        io::write_all(STDOUT_FILENO, text)
-    } else {
-        false
-    }
+    if whole { out.write(text) } else { false }
 }
 
 // Whole before, and whole after.
@@ -64,78 +61,84 @@ fn spell(n: u64, group: usize, text: &mut [u8; WIDEST]) -> usize
 }
 
 // The end of a text, from a place on, or as wide as asked.
-fn tail(whole: bool, text: &[u8; WIDEST], at: usize, width: usize) -> bool
+fn tail(out: &mut Out, whole: bool, text: &[u8; WIDEST], at: usize, width: usize) -> bool
     ensures { Keeps whole result }
 {
     let all = &text[..];
     if all.len() < width {
-        return say(whole, all);
+        return say(out, whole, all);
     }
     let from = all.len() - width;
     if from < at {
-        return say(whole, &all[from..]);
+        return say(out, whole, &all[from..]);
     }
     if at <= all.len() {
-        return say(whole, &all[at..]);
+        return say(out, whole, &all[at..]);
     }
     whole
 }
 
-fn figure(whole: bool, n: u64, width: usize, group: usize) -> bool
+fn figure(out: &mut Out, whole: bool, n: u64, width: usize, group: usize) -> bool
     requires { 2 < group }
     ensures { Keeps whole result }
 {
     let mut text = [b' '; WIDEST];
     let at = spell(n, group, &mut text);
-    tail(whole, &text, at, width)
+    tail(out, whole, &text, at, width)
 }
 
 // A number, with blanks before it to fill a column.
-pub fn number(whole: bool, n: u64, width: usize) -> bool
+pub fn number(out: &mut Out, whole: bool, n: u64, width: usize) -> bool
     ensures { Keeps whole result }
 {
-    figure(whole, n, width, DIGITS)
+    figure(out, whole, n, width, DIGITS)
 }
 
 // The same with a comma between thousands.
-pub fn grouped(whole: bool, n: u64, width: usize) -> bool
+pub fn grouped(out: &mut Out, whole: bool, n: u64, width: usize) -> bool
     ensures { Keeps whole result }
 {
-    figure(whole, n, width, 3)
+    figure(out, whole, n, width, 3)
 }
 
 // A number behind a blank, in a column where the numbers are aligned.
-pub fn cell(whole: bool, n: u32, aligned: bool) -> bool
+pub fn cell(out: &mut Out, whole: bool, n: u32, aligned: bool) -> bool
     ensures { Keeps whole result }
 {
-    let whole = say(whole, b" ");
+    let whole = say(out, whole, b" ");
     if aligned {
-        number(whole, n as u64, ALIGNED)
+        number(out, whole, n as u64, ALIGNED)
     } else {
-        number(whole, n as u64, 0)
+        number(out, whole, n as u64, 0)
     }
 }
 
 // A number with commas between two texts.
-pub fn count(whole: bool, before: &[u8], n: u64, after: &[u8]) -> bool
+pub fn count(out: &mut Out, whole: bool, before: &[u8], n: u64, after: &[u8]) -> bool
     ensures { Keeps whole result }
 {
-    say(grouped(say(whole, before), n, 0), after)
+    let whole = say(out, whole, before);
+    let whole = grouped(out, whole, n, 0);
+    say(out, whole, after)
 }
 
 // A line in red stands between the two; the line feed is behind it.
-pub fn begin_line(whole: bool, red: bool) -> bool
-    ensures { Keeps whole result }
-{
-    if red { say(whole, b"\x1b[31m") } else { whole }
-}
-
-pub fn end_line(whole: bool, red: bool) -> bool
+pub fn begin_line(out: &mut Out, whole: bool, red: bool) -> bool
     ensures { Keeps whole result }
 {
     if red {
-        say(whole, b"\x1b[0m\n")
+        say(out, whole, b"\x1b[31m")
     } else {
-        say(whole, b"\n")
+        whole
+    }
+}
+
+pub fn end_line(out: &mut Out, whole: bool, red: bool) -> bool
+    ensures { Keeps whole result }
+{
+    if red {
+        say(out, whole, b"\x1b[0m\n")
+    } else {
+        say(out, whole, b"\n")
     }
 }

@@ -1,10 +1,10 @@
 // A page of many small pieces: they are laid into a sheet of lent bytes, which is written when it is full. A pen says how far the
-// sheet is filled, and whether every write so far was taken.
+// sheet is filled, and whether every write so far was taken; it writes to the handle that it holds.
 ghost use Rattle.std.specs.Prelude.{◌+◌, ◌^◌, ◌<◌, ◌≤◌, length, ◌≡◌};
 ghost use Rattle.page.specs.Plain.{is_plain};
 ghost use Rattle.page.specs.Whole.{Keeps};
 
-use super::{DIGITS, WIDEST, say, spell};
+use super::{DIGITS, Out, WIDEST, say, spell};
 
 pub const SHEET: usize = 65_536;
 
@@ -12,6 +12,7 @@ pub const SHEET: usize = 65_536;
 pub struct Pen {
     pub at: usize,
     pub whole: bool,
+    pub out: Out,
 }
 
 // Writes what is laid. A pen that stands beyond its sheet has lost something.
@@ -19,14 +20,16 @@ pub fn flush(sheet: &[u8; SHEET], pen: Pen) -> Pen
     ensures { Keeps pen.whole result.whole }
 {
     let at = pen.at;
+    let mut out = pen.out;
     let all = &sheet[..];
     if at <= all.len() {
-        let whole = say(pen.whole, &all[..at]);
-        return Pen { at: 0, whole };
+        let whole = say(&mut out, pen.whole, &all[..at]);
+        return Pen { at: 0, whole, out };
     }
     Pen {
         at: 0,
         whole: false,
+        out,
     }
 }
 
@@ -39,6 +42,7 @@ fn lay(sheet: &mut [u8; SHEET], pen: Pen, b: u8) -> Pen
         return Pen {
             at: at + 1,
             whole: pen.whole,
+            out: pen.out,
         };
     }
     let next = flush(&*sheet, pen);
@@ -46,6 +50,7 @@ fn lay(sheet: &mut [u8; SHEET], pen: Pen, b: u8) -> Pen
     Pen {
         at: 1,
         whole: next.whole,
+        out: next.out,
     }
 }
 
