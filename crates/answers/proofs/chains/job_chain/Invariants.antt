@@ -1,0 +1,17 @@
+use Prim.Native.Nat.{◌-◌, ◌≤◌}
+use Rattle.row.specs.Row.{table_of}
+use Rattle.periods.specs.Charge.{imposed}
+use Rattle.analysis.specs.Bound.{demand}
+use Rattle.analysis.specs.Needed.{start}
+use Rattle.analysis.specs.Walk.{never?}
+use Rattle.answers.specs.Turn.{Reaches}
+use Rattle.answers.proofs.Chain.{Left}
+use Rattle.answers.proofs.chains.job_chain.Given as goal
+
+abbrev pub invariant-loop-made : goal.invariant-loop-made
+invariant-loop-made l =
+    Left (demand imposed (table_of l.work) l.s.u l.s.a l.x.mode l.x.candidate l.p.0) never? l.budget l.used (start (table_of l.work) l.s.u l.s.a l.x.mode l.x.candidate l.p.0) l.made l.t.0
+    × ((reaches : Reaches (table_of l.work) l.s.u l.s.a l.x.mode l.x.candidate l.p.0) → l.t.0 ≤ reaches.t)
+
+abbrev pub decreases-loop-made : goal.decreases-loop-made
+decreases-loop-made l = l.budget - l.made

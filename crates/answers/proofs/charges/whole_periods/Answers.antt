@@ -1,0 +1,17 @@
+-- Of what jobs impose, one period fewer is whole. Assumes nothing.
+use mathlib.Core.Path.{refl}
+use native.Mathlib.Omega.{arith}
+use Rattle.charge.specs.Split.{whole_periods}
+use Rattle.answers.proofs.charges.whole_periods.Goals as goal
+
+pub returns-then-whole : goal.returns-then-whole
+unfolding whole_periods
+returns-then-whole c = rw c.if-whole.true refl
+
+pub returns-then-periods-eq0 : goal.returns-then-periods-eq0
+unfolding whole_periods
+returns-then-periods-eq0 c = rw c.if-whole.false (omega arith)
+
+pub returns-else-periods-eq0 : goal.returns-else-periods-eq0
+unfolding whole_periods
+returns-else-periods-eq0 c = rw c.if-whole.false (omega arith)

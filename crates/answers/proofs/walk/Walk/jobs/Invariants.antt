@@ -1,0 +1,17 @@
+use Prim.Native.Nat.{◌-◌}
+use Rattle.row.specs.Row.{table_of}
+use Rattle.periods.specs.Charge.{imposed}
+use Rattle.analysis.specs.Walk.{walk_jobs}
+use Rattle.answers.specs.Turn.{best_meant}
+use Rattle.answers.proofs.Walks.{Going}
+use Rattle.answers.proofs.walk.Walk.jobs.Given as goal
+
+abbrev pub invariant-loop-n : goal.invariant-loop-n
+invariant-loop-n l =
+    Going l.budget
+    (walk_jobs imposed (table_of l.work) l.s.u l.s.a l.x.mode l.x.candidate l.jobs.0 0 (l.budget - l.initial.state.used) (best_meant l.initial.state.best))
+    (walk_jobs imposed (table_of l.work) l.s.u l.s.a l.x.mode l.x.candidate (l.jobs.0 - l.n) l.n)
+    l.state
+
+abbrev pub decreases-loop-n : goal.decreases-loop-n
+decreases-loop-n l = l.count - l.n
