@@ -14,7 +14,7 @@ pub fill-requires : goal.fill-requires
 fill-requires c =
     let x = c in
     let f = x in
-    read-lent f.args.image.now f.read_in_front.new.cells.0 (accepted-after-fill-arg-1 x) f.read_in_front.ensures.cells_after
+    read-lent f.args.image.now f.read_in_front.new.1.0 (accepted-after-fill-arg-1 x) f.read_in_front.ensures.cells_after
 
 -- the answer of reading, by the way that the match goes
 refused-in-refused :
@@ -35,6 +35,6 @@ returns-in-Accepted c =
     let f = x in
     let a = f.args in
     Fills.accepted (accepted-after-slice_known-in-accepted-1 x)
-    (subst (λ (tab : Table). FillsFrom tab a.budget a.cells.now y.fill.new.budget.1.0 y.fill.result)
-    (read_table a.image.now f.read_in_front.new.cells.0 (accepted-after-slice_known-in-accepted-1 x) f.read_in_front.ensures.cells_after)
+    (subst (λ (tab : Table). FillsFrom tab a.budget a.cells.now y.fill.new.cells.1.0 y.fill.result)
+    (read_table a.image.now f.read_in_front.new.1.0 (accepted-after-slice_known-in-accepted-1 x) f.read_in_front.ensures.cells_after)
     y.fill.ensures)

@@ -27,7 +27,7 @@ task_cells-requires c =
     let (lent, same) = l.loop-k.invariant.1.1 in record { lent = lent; k_bound = rw (same, p.prepare.ensures.work_unchanged) (omega (arith, n.loop-k-test.true, p.in_all-count.ensures)) }
 
 few-after-slice_known-in-loop-k-1 : (c : goal.After-slice_known-in-loop-k-1) → c.in_all-count.result ≤ tasks_in_all
-few-after-slice_known-in-loop-k-1 c = omega (arith, c.in_all-count.ensures, c.requires.0.kept.few_tasks)
+few-after-slice_known-in-loop-k-1 c = omega (arith, c.in_all-count.ensures, c.requires.row_of_table.kept.few_tasks)
 
 pub overflow_add-k : goal.overflow_add-k
 overflow_add-k c =
@@ -56,7 +56,7 @@ loop-k-preserved c =
       omega (arith, n.loop-k-test.true),
       (
         p.put.ensures
-            ∙ written_next tab s.args.budget s.args.cells.now (rw made.prepare.ensures.work_unchanged s.pre.0.kept) l.loop-k.k
+            ∙ written_next tab s.args.budget s.args.cells.now (rw made.prepare.ensures.work_unchanged s.requires.row_of_table.kept) l.loop-k.k
             (cells_meant t.task_cells.result)
             l.loop-k.cells
             (omega (arith, n.loop-k-test.true, every))
@@ -88,7 +88,7 @@ returns-then-have_room c =
     let last : l.loop-k.k ≡ in_all tab = omega (arith, c.loop-k-test.false, l.loop-k.invariant.0, y.in_all-count.ensures) in
     rw y.in_all-count.ensures
     (FillsFrom.done
-    (written_all tab s.args.budget s.args.cells.now s.pre.0.kept l.loop-k.cells
+    (written_all tab s.args.budget s.args.cells.now s.requires.row_of_table.kept l.loop-k.cells
     (omega (arith, room-after-loop-k made, y.in_all-count.ensures))
     (rw (made.prepare.ensures.work_unchanged, last) at l.loop-k.invariant.1.0)))
 

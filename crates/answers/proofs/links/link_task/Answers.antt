@@ -68,8 +68,8 @@ module _ (y : goal.After-modes-m) where
 
   small : (k < tasks_in_all) × (y.modes-m.result ≤ modes_most)
   small =
-      let kept = x.pre.0.table.kept in
-      (omega (arith, x.pre.1.1.0, kept.few_tasks), omega (arith, y.modes-m.ensures, modes-few kept owned.owner.ensures.is_task.owner))
+      let kept = x.requires.lent.table.kept in
+      (omega (arith, x.requires.k_bound, kept.few_tasks), omega (arith, y.modes-m.ensures, modes-few kept owned.owner.ensures.is_task.owner))
 
   -- the cells with the link behind its last mode
   abbrev begun : List ℕ
@@ -80,7 +80,7 @@ module _ (y : goal.After-modes-m) where
 
   -- rows are of the same table from there on
   leaves : (work : List ℕ) → SameTo settings_cell begun work → Lent work × (Weighs work x.args.s × (table_of work ≡ table_of old))
-  leaves work same = weighs-same x.pre.0 x.pre.1.0 work (same-trans begun-same same)
+  leaves work same = weighs-same x.requires.lent x.requires.weighs work (same-trans begun-same same)
 
   begun-table : table_of begun ≡ table_of old
   begun-table = (leaves begun (same_refl settings_cell begun)).1.1

@@ -24,6 +24,7 @@ use Rattle.answers.proofs.Answered.{source-few, source-near}
 use Rattle.answers.proofs.Pushing.{completes, completion-short, jobs-short, rivals-short}
 use Rattle.answers.proofs.pushed.parts_of.Goals as goal
 
+-- where the instant's numbers are known
 pub instant_of-x-requires : goal.instant_of-x-requires
 unfolding source_meant
 instant_of-x-requires c = let lent = c.requires.lent in let subject = c.requires.subject in let by = c.requires.bound_by in record { lent = lent; subject = subject; setting = by.first.gives.setting }
@@ -32,9 +33,9 @@ pub job-requires : goal.job-requires
 unfolding source_meant
 job-requires c =
     let x = c in
-    let (lent, (subject, by)) = x.before.pre in
+    let lent = x.requires.lent in let subject = x.requires.subject in let by = x.requires.bound_by in
     let kept = lent.table.kept in
-    let is_task = subject.chosen.is_task in record { near = instant-first kept is_task x.instant-of.ensures; n_bound = source-few kept is_task by }
+    let is_task = subject.chosen.is_task in record { near = instant-first kept is_task x.instant_of-x.ensures; n_bound = source-few kept is_task by }
 
 abbrev tab-after-job : goal.After-job → Table
 tab-after-job s = table_of s.args.work.now
@@ -46,23 +47,23 @@ numbered-after-job s = job (tab-after-job s) s.args.s.u s.args.s.a s.args.by.can
 number : (c : goal.After-job) → c.job.result.0 ≡ numbered-after-job c
 number c =
     let x = c in
-    let (lent, (subject, by)) = x.before.pre in
-    c.job.ensures ∙ instant-job lent.table.kept subject.chosen.is_task x.instant-of.ensures x.before.args.by.job.0
+    let lent = x.requires.lent in let subject = x.requires.subject in let by = x.requires.bound_by in
+    c.job.ensures ∙ instant-job lent.table.kept subject.chosen.is_task x.instant_of-x.ensures x.args.by.job.0
 
 pub arrival-arrives-requires : goal.arrival-arrives-requires
 unfolding source_meant
 arrival-arrives-requires c =
     let x = c in
-    let (lent, (subject, by)) = x.before.pre in
+    let lent = x.requires.lent in let subject = x.requires.subject in let by = x.requires.bound_by in
     let kept = lent.table.kept in
     let is_task = subject.chosen.is_task in
-    let period = instant-period kept is_task x.instant-of.ensures in
-    let phase = instant-phase kept is_task x.instant-of.ensures in record { period_bound = period; phase_bound = omega (arith, period, phase); near = rw (number c) (source-near kept is_task by) }
+    let period = instant-period kept is_task x.instant_of-x.ensures in
+    let phase = instant-phase kept is_task x.instant_of-x.ensures in record { period_bound = period; phase_bound = omega (arith, period, phase); near = rw (number c) (source-near kept is_task by) }
 
 early : (c : goal.After-arrival-arrives) → mag c.arrival-arrives.result.0 < 2 ^ 52
 early c =
     let x = c in
-    let i = x.instant-of.result in
+    let i = x.instant_of-x.result in
     let (period, (phase, near)) = arrival-arrives-requires c tt in
     rw c.arrival-arrives.ensures (arrival-small i.period.0 i.phase.0 c.job.result.0 period phase near)
 
@@ -80,25 +81,25 @@ numbered-after-arrival-arrives s = job (tab-after-arrival-arrives s) s.args.s.u 
 number-after-arrival-arrives : (c : goal.After-arrival-arrives) → c.job.result.0 ≡ numbered-after-arrival-arrives c
 number-after-arrival-arrives c =
     let x = c in
-    let (lent, (subject, by)) = x.before.pre in
-    c.job.ensures ∙ instant-job lent.table.kept subject.chosen.is_task x.instant-of.ensures x.before.args.by.job.0
+    let lent = x.requires.lent in let subject = x.requires.subject in let by = x.requires.bound_by in
+    c.job.ensures ∙ instant-job lent.table.kept subject.chosen.is_task x.instant_of-x.ensures x.args.by.job.0
 
 arrives : (c : goal.After-arrival-arrives) → c.arrival-arrives.result.0 ≡ (wanted-after-arrival-arrives c).arrival
 unfolding source_meant parts_of
 arrives c =
     let x = c in
-    let s = x.before in
-    let (lent, (subject, by)) = s.pre in
+    let s = x in
+    let lent = s.requires.lent in let subject = s.requires.subject in let by = s.requires.bound_by in
     c.arrival-arrives.ensures
-    ∙ instant-arrival lent.table.kept subject.chosen.is_task x.instant-of.ensures c.job.result.0
+    ∙ instant-arrival lent.table.kept subject.chosen.is_task x.instant_of-x.ensures c.job.result.0
     ∙ ap (arrival (tab-after-arrival-arrives s) s.args.s.u s.args.s.a s.args.by.candidate) (number-after-arrival-arrives c)
 
 pub completion-w-requires : goal.completion-w-requires
 unfolding source_meant parts_of
 completion-w-requires c =
     let x = c in
-    let (lent, (subject, by)) = x.before.pre in
-    let turn = x.instant-of.ensures in record { offset_bound = instant-offset lent.table.kept subject.chosen.is_task turn; arrives_bound = early c; t = rw (turn.offset, arrives c) (completes by) }
+    let lent = x.requires.lent in let subject = x.requires.subject in let by = x.requires.bound_by in
+    let turn = x.instant_of-x.ensures in record { offset_bound = instant-offset lent.table.kept subject.chosen.is_task turn; arrives_bound = early c; t = rw (turn.offset, arrives c) (completes by) }
 
 abbrev tab-after-completion-w : goal.After-completion-w → Table
 tab-after-completion-w s = table_of s.args.work.now
@@ -114,17 +115,17 @@ numbered-after-completion-w s = job (tab-after-completion-w s) s.args.s.u s.args
 number-after-completion-w : (c : goal.After-completion-w) → c.job.result.0 ≡ numbered-after-completion-w c
 number-after-completion-w c =
     let x = c in
-    let (lent, (subject, by)) = x.before.pre in
-    c.job.ensures ∙ instant-job lent.table.kept subject.chosen.is_task x.instant-of.ensures x.before.args.by.job.0
+    let lent = x.requires.lent in let subject = x.requires.subject in let by = x.requires.bound_by in
+    c.job.ensures ∙ instant-job lent.table.kept subject.chosen.is_task x.instant_of-x.ensures x.args.by.job.0
 
 arrives-after-completion-w : (c : goal.After-completion-w) → c.arrival-arrives.result.0 ≡ (wanted-after-completion-w c).arrival
 unfolding source_meant parts_of
 arrives-after-completion-w c =
     let x = c in
-    let s = x.before in
-    let (lent, (subject, by)) = s.pre in
+    let s = x in
+    let lent = s.requires.lent in let subject = s.requires.subject in let by = s.requires.bound_by in
     c.arrival-arrives.ensures
-    ∙ instant-arrival lent.table.kept subject.chosen.is_task x.instant-of.ensures c.job.result.0
+    ∙ instant-arrival lent.table.kept subject.chosen.is_task x.instant_of-x.ensures c.job.result.0
     ∙ ap (arrival (tab-after-completion-w s) s.args.s.u s.args.s.a s.args.by.candidate) (number-after-completion-w c)
 
 completed : (c : goal.After-completion-w) → c.completion-w.result.0 ≡ (wanted-after-completion-w c).completion
@@ -132,22 +133,22 @@ unfolding source_meant parts_of
 completed c =
     let x = c in
     c.completion-w.ensures
-    ∙ ap₂ (λ (O : ℕ) (z : ℤ). count (pos x.before.args.bound -ℤ pos O +ℤ z)) x.instant-of.ensures.offset (arrives-after-completion-w c)
+    ∙ ap₂ (λ (O : ℕ) (z : ℤ). count (pos x.args.bound -ℤ pos O +ℤ z)) x.instant_of-x.ensures.offset (arrives-after-completion-w c)
 
 short : (c : goal.After-completion-w) → c.completion-w.result.0 ≤ horizon
 short c =
-    let (lent, (subject, by)) = c.requires in
+    let lent = c.requires.lent in let subject = c.requires.subject in let by = c.requires.bound_by in
     rw (completed c) (completion-short by lent.table.kept subject.chosen.is_task)
 
 pub split_of-own-requires : goal.split_of-own-requires
 split_of-own-requires c =
-    let (lent, (subject, by)) = c.requires in record { row_of_table = lent.table; i_bound = subject.chosen.is_task.owner; t_bound = omega (arith, short c) }
+    let lent = c.requires.lent in let subject = c.requires.subject in let by = c.requires.bound_by in record { row_of_table = lent.table; i_bound = subject.chosen.is_task.owner; t_bound = omega (arith, short c) }
 
 pub charge-rivals-requires : goal.charge-rivals-requires
 charge-rivals-requires c =
     let x = c in
-    let (lent, (subject, by)) = x.before.pre in
-    let setting = x.instant-of.ensures.setting in
+    let lent = x.requires.lent in let subject = x.requires.subject in let by = x.requires.bound_by in
+    let setting = x.instant_of-x.ensures.setting in
     record {
       lent = lent;
       subject = subject;
@@ -170,17 +171,17 @@ numbered-after-struct_known-1 s = job (tab-after-struct_known-1 s) s.args.s.u s.
 number-after-struct_known-1 : (c : goal.After-struct_known-1) → c.job.result.0 ≡ numbered-after-struct_known-1 c
 number-after-struct_known-1 c =
     let x = c in
-    let (lent, (subject, by)) = x.before.pre in
-    c.job.ensures ∙ instant-job lent.table.kept subject.chosen.is_task x.instant-of.ensures x.before.args.by.job.0
+    let lent = x.requires.lent in let subject = x.requires.subject in let by = x.requires.bound_by in
+    c.job.ensures ∙ instant-job lent.table.kept subject.chosen.is_task x.instant_of-x.ensures x.args.by.job.0
 
 arrives-after-struct_known-1 : (c : goal.After-struct_known-1) → c.arrival-arrives.result.0 ≡ (wanted-after-struct_known-1 c).arrival
 unfolding source_meant parts_of
 arrives-after-struct_known-1 c =
     let x = c in
-    let s = x.before in
-    let (lent, (subject, by)) = s.pre in
+    let s = x in
+    let lent = s.requires.lent in let subject = s.requires.subject in let by = s.requires.bound_by in
     c.arrival-arrives.ensures
-    ∙ instant-arrival lent.table.kept subject.chosen.is_task x.instant-of.ensures c.job.result.0
+    ∙ instant-arrival lent.table.kept subject.chosen.is_task x.instant_of-x.ensures c.job.result.0
     ∙ ap (arrival (tab-after-struct_known-1 s) s.args.s.u s.args.s.a s.args.by.candidate) (number-after-struct_known-1 c)
 
 completed-after-struct_known-1 : (c : goal.After-struct_known-1) → c.completion-w.result.0 ≡ (wanted-after-struct_known-1 c).completion
@@ -188,11 +189,11 @@ unfolding source_meant parts_of
 completed-after-struct_known-1 c =
     let x = c in
     c.completion-w.ensures
-    ∙ ap₂ (λ (O : ℕ) (z : ℤ). count (pos x.before.args.bound -ℤ pos O +ℤ z)) x.instant-of.ensures.offset (arrives-after-struct_known-1 c)
+    ∙ ap₂ (λ (O : ℕ) (z : ℤ). count (pos x.args.bound -ℤ pos O +ℤ z)) x.instant_of-x.ensures.offset (arrives-after-struct_known-1 c)
 
 short-after-struct_known-1 : (c : goal.After-struct_known-1) → c.completion-w.result.0 ≤ horizon
 short-after-struct_known-1 c =
-    let (lent, (subject, by)) = c.requires in
+    let lent = c.requires.lent in let subject = c.requires.subject in let by = c.requires.bound_by in
     rw (completed-after-struct_known-1 c) (completion-short by lent.table.kept subject.chosen.is_task)
 
 pub overflow_cast-result : goal.overflow_cast-result
@@ -201,19 +202,19 @@ overflow_cast-result c = omega (arith, short-after-struct_known-1 c)
 pub overflow_cast-result-2 : goal.overflow_cast-result-2
 overflow_cast-result-2 c =
     let x = c in
-    let (lent, (subject, by)) = x.before.pre in
-    omega (arith, instant-offset lent.table.kept subject.chosen.is_task x.instant-of.ensures)
+    let lent = x.requires.lent in let subject = x.requires.subject in let by = x.requires.bound_by in
+    omega (arith, instant-offset lent.table.kept subject.chosen.is_task x.instant_of-x.ensures)
 
 pub overflow_cast-result-3 : goal.overflow_cast-result-3
 overflow_cast-result-3 c =
     let x = c in
-    let (lent, (subject, by)) = x.before.pre in
-    omega (arith, instant-blocking lent.table.kept subject.chosen.is_task x.instant-of.ensures)
+    let lent = x.requires.lent in let subject = x.requires.subject in let by = x.requires.bound_by in
+    omega (arith, instant-blocking lent.table.kept subject.chosen.is_task x.instant_of-x.ensures)
 
 pub overflow_add-result : goal.overflow_add-result
 unfolding source_meant
 overflow_add-result c =
-    let (lent, (subject, by)) = c.requires in
+    let lent = c.requires.lent in let subject = c.requires.subject in let by = c.requires.bound_by in
     omega (arith, source-few lent.table.kept subject.chosen.is_task by)
 
 abbrev tab-after-struct_known-5-1 : goal.After-struct_known-5-1 → Table
@@ -227,22 +228,22 @@ wanted-after-struct_known-5-1 s = parts_of (tab-after-struct_known-5-1 s) s.args
 taken-after-struct_known-5-1 :
     (c : goal.After-struct_known-5-1)
     → let x = c in
-    (x.before.args.by.job.0 + 1) * x.instant-of.result.time.0 ≡ (wanted-after-struct_known-5-1 x.before).own_jobs
+    (x.args.by.job.0 + 1) * x.instant_of-x.result.time.0 ≡ (wanted-after-struct_known-5-1 x).own_jobs
 unfolding source_meant parts_of
 taken-after-struct_known-5-1 c =
     let x = c in
-    ap₂ (λ (n C : ℕ). n * C) (add-one x.before.args.by.job.0) x.instant-of.ensures.time
+    ap₂ (λ (n C : ℕ). n * C) (add-one x.args.by.job.0) x.instant_of-x.ensures.time
 
 pub overflow_mul-result : goal.overflow_mul-result
 overflow_mul-result c =
     let d = c in
-    let (lent, (subject, by)) = d.before.requires in
+    let lent = d.requires.lent in let subject = d.requires.subject in let by = d.requires.bound_by in
     omega (arith, taken-after-struct_known-5-1 d, jobs-short by lent.table.kept subject.chosen.is_task)
 
 pub overflow_cast-result-4 : goal.overflow_cast-result-4
 overflow_cast-result-4 c =
     let d = c in
-    let (lent, (subject, by)) = d.before.requires in
+    let lent = d.requires.lent in let subject = d.requires.subject in let by = d.requires.bound_by in
     omega (arith, taken-after-struct_known-5-1 d, jobs-short by lent.table.kept subject.chosen.is_task)
 
 abbrev tab-after-struct_known-6-1 : goal.After-struct_known-6-1 → Table
@@ -259,17 +260,17 @@ numbered-after-struct_known-6-1 s = job (tab-after-struct_known-6-1 s) s.args.s.
 number-after-struct_known-6-1 : (c : goal.After-struct_known-6-1) → c.job.result.0 ≡ numbered-after-struct_known-6-1 c
 number-after-struct_known-6-1 c =
     let x = c in
-    let (lent, (subject, by)) = x.before.pre in
-    c.job.ensures ∙ instant-job lent.table.kept subject.chosen.is_task x.instant-of.ensures x.before.args.by.job.0
+    let lent = x.requires.lent in let subject = x.requires.subject in let by = x.requires.bound_by in
+    c.job.ensures ∙ instant-job lent.table.kept subject.chosen.is_task x.instant_of-x.ensures x.args.by.job.0
 
 arrives-after-struct_known-6-1 : (c : goal.After-struct_known-6-1) → c.arrival-arrives.result.0 ≡ (wanted-after-struct_known-6-1 c).arrival
 unfolding source_meant parts_of
 arrives-after-struct_known-6-1 c =
     let x = c in
-    let s = x.before in
-    let (lent, (subject, by)) = s.pre in
+    let s = x in
+    let lent = s.requires.lent in let subject = s.requires.subject in let by = s.requires.bound_by in
     c.arrival-arrives.ensures
-    ∙ instant-arrival lent.table.kept subject.chosen.is_task x.instant-of.ensures c.job.result.0
+    ∙ instant-arrival lent.table.kept subject.chosen.is_task x.instant_of-x.ensures c.job.result.0
     ∙ ap (arrival (tab-after-struct_known-6-1 s) s.args.s.u s.args.s.a s.args.by.candidate) (number-after-struct_known-6-1 c)
 
 completed-after-struct_known-6-1 : (c : goal.After-struct_known-6-1) → c.completion-w.result.0 ≡ (wanted-after-struct_known-6-1 c).completion
@@ -277,7 +278,7 @@ unfolding source_meant parts_of
 completed-after-struct_known-6-1 c =
     let x = c in
     c.completion-w.ensures
-    ∙ ap₂ (λ (O : ℕ) (z : ℤ). count (pos x.before.args.bound -ℤ pos O +ℤ z)) x.instant-of.ensures.offset (arrives-after-struct_known-6-1 c)
+    ∙ ap₂ (λ (O : ℕ) (z : ℤ). count (pos x.args.bound -ℤ pos O +ℤ z)) x.instant_of-x.ensures.offset (arrives-after-struct_known-6-1 c)
 
 charged-after-struct_known-6-1 : (c : goal.After-struct_known-6-1) → c.charge-rivals.result.0 ≡ (wanted-after-struct_known-6-1 c).own_rivals
 unfolding source_meant parts_of
@@ -290,7 +291,7 @@ charged-after-struct_known-6-1 c =
 pub overflow_cast-result-5 : goal.overflow_cast-result-5
 overflow_cast-result-5 c =
     let d = c in
-    let (lent, (subject, by)) = d.before.requires in
+    let lent = d.requires.lent in let subject = d.requires.subject in let by = d.requires.bound_by in
     omega (arith, charged-after-struct_known-6-1 d, rivals-short by lent.table.kept subject.chosen.is_task)
 
 abbrev tab-after-struct_told-1 : goal.After-struct_told-1 → Table
@@ -303,7 +304,7 @@ wanted-after-struct_told-1 s = parts_of (tab-after-struct_told-1 s) s.args.s.u s
 early-after-struct_told-1 : (c : goal.After-struct_told-1) → mag c.arrival-arrives.result.0 < 2 ^ 52
 early-after-struct_told-1 c =
     let x = c in
-    let i = x.instant-of.result in
+    let i = x.instant_of-x.result in
     let (period, (phase, near)) = arrival-arrives-requires c tt in
     rw c.arrival-arrives.ensures (arrival-small i.period.0 i.phase.0 c.job.result.0 period phase near)
 
@@ -314,17 +315,17 @@ numbered-after-struct_told-1 s = job (tab-after-struct_told-1 s) s.args.s.u s.ar
 number-after-struct_told-1 : (c : goal.After-struct_told-1) → c.job.result.0 ≡ numbered-after-struct_told-1 c
 number-after-struct_told-1 c =
     let x = c in
-    let (lent, (subject, by)) = x.before.pre in
-    c.job.ensures ∙ instant-job lent.table.kept subject.chosen.is_task x.instant-of.ensures x.before.args.by.job.0
+    let lent = x.requires.lent in let subject = x.requires.subject in let by = x.requires.bound_by in
+    c.job.ensures ∙ instant-job lent.table.kept subject.chosen.is_task x.instant_of-x.ensures x.args.by.job.0
 
 arrives-after-struct_told-1 : (c : goal.After-struct_told-1) → c.arrival-arrives.result.0 ≡ (wanted-after-struct_told-1 c).arrival
 unfolding source_meant parts_of
 arrives-after-struct_told-1 c =
     let x = c in
-    let s = x.before in
-    let (lent, (subject, by)) = s.pre in
+    let s = x in
+    let lent = s.requires.lent in let subject = s.requires.subject in let by = s.requires.bound_by in
     c.arrival-arrives.ensures
-    ∙ instant-arrival lent.table.kept subject.chosen.is_task x.instant-of.ensures c.job.result.0
+    ∙ instant-arrival lent.table.kept subject.chosen.is_task x.instant_of-x.ensures c.job.result.0
     ∙ ap (arrival (tab-after-struct_told-1 s) s.args.s.u s.args.s.a s.args.by.candidate) (number-after-struct_told-1 c)
 
 completed-after-struct_told-1 : (c : goal.After-struct_told-1) → c.completion-w.result.0 ≡ (wanted-after-struct_told-1 c).completion
@@ -332,17 +333,17 @@ unfolding source_meant parts_of
 completed-after-struct_told-1 c =
     let x = c in
     c.completion-w.ensures
-    ∙ ap₂ (λ (O : ℕ) (z : ℤ). count (pos x.before.args.bound -ℤ pos O +ℤ z)) x.instant-of.ensures.offset (arrives-after-struct_told-1 c)
+    ∙ ap₂ (λ (O : ℕ) (z : ℤ). count (pos x.args.bound -ℤ pos O +ℤ z)) x.instant_of-x.ensures.offset (arrives-after-struct_told-1 c)
 
 -- the jobs to this one, each with its time
 taken-after-struct_told-1 :
     (c : goal.After-struct_told-1)
     → let x = c in
-    (x.before.args.by.job.0 + 1) * x.instant-of.result.time.0 ≡ (wanted-after-struct_told-1 x.before).own_jobs
+    (x.args.by.job.0 + 1) * x.instant_of-x.result.time.0 ≡ (wanted-after-struct_told-1 x).own_jobs
 unfolding source_meant parts_of
 taken-after-struct_told-1 c =
     let x = c in
-    ap₂ (λ (n C : ℕ). n * C) (add-one x.before.args.by.job.0) x.instant-of.ensures.time
+    ap₂ (λ (n C : ℕ). n * C) (add-one x.args.by.job.0) x.instant_of-x.ensures.time
 
 charged-after-struct_told-1 : (c : goal.After-struct_told-1) → c.charge-rivals.result.0 ≡ (wanted-after-struct_told-1 c).own_rivals
 unfolding source_meant parts_of
@@ -358,9 +359,9 @@ returns c =
     let d = c in
     let w = d in
     let x = w in
-    let s = x.before in
-    let turn = x.instant-of.ensures in
-    let i = x.instant-of.result in
+    let s = x in
+    let turn = x.instant_of-x.ensures in
+    let i = x.instant_of-x.result in
     let found : Parts =
     record {
       completion = w.completion-w.result.0;
@@ -381,4 +382,4 @@ returns c =
       own_jobs = taken-after-struct_told-1 d k;
       own_rivals = charged-after-struct_told-1 d k;
     } in
-    subst (MadeOf (tab-after-struct_told-1 s) s.args.s.u s.args.s.a s.args.bound (source_meant s.args.by)) (sym same) (made_of s.pre.1.1)
+    subst (MadeOf (tab-after-struct_told-1 s) s.args.s.u s.args.s.a s.args.bound (source_meant s.args.by)) (sym same) (made_of s.requires.bound_by)

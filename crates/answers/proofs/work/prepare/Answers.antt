@@ -19,7 +19,7 @@ loop-k-init c =
 
 -- the row-after-put_phases-arg-1 in front holds the table still
 row-after-put_phases-arg-1 : (c : goal.After-put_phases-arg-1) → RowOfTable c.loop-k.work × (table_of c.loop-k.work ≡ table_of c.args.work.now)
-row-after-put_phases-arg-1 c = same_row c.pre.0 c.loop-k.invariant.1.1
+row-after-put_phases-arg-1 c = same_row c.requires.row_of_table c.loop-k.invariant.1.1
 
 pub put_phases-requires : goal.put_phases-requires
 put_phases-requires c =
@@ -29,7 +29,7 @@ put_phases-requires c =
     let (is_row, same) = row-after-put_phases-arg-1 l in (
       is_row,
       (
-        l.loop-k.invariant.1.1.size ∙ x.pre.1,
+        l.loop-k.invariant.1.1.size ∙ x.requires.work_len,
         rw same (omega (arith, n.loop-k-test.true, l.in_all-count.ensures), l.loop-k.invariant.1.0),
       ),
     )
@@ -38,14 +38,14 @@ pub overflow_add-k : goal.overflow_add-k
 overflow_add-k c =
     let n = c in
     let y = n in
-    omega (arith, n.loop-k-test.true, y.in_all-count.ensures, y.requires.0.kept.few_tasks)
+    omega (arith, n.loop-k-test.true, y.in_all-count.ensures, y.requires.row_of_table.kept.few_tasks)
 
 pub loop-k-smaller : goal.loop-k-smaller
 loop-k-smaller c = omega (arith, c.loop-k-test.true)
 
 -- the row-after-put_phases in front holds the table still
 row-after-put_phases : (c : goal.After-put_phases) → RowOfTable c.loop-k.work × (table_of c.loop-k.work ≡ table_of c.args.work.now)
-row-after-put_phases c = same_row c.pre.0 c.loop-k.invariant.1.1
+row-after-put_phases c = same_row c.requires.row_of_table c.loop-k.invariant.1.1
 
 pub loop-k-preserved : goal.loop-k-preserved
 loop-k-preserved c =
@@ -61,4 +61,4 @@ returns c =
     let tab = table_of x.args.work.now in
     let last : l.loop-k.k ≡ in_all tab = omega (arith, c.loop-k-test.false, l.loop-k.invariant.0, l.in_all-count.ensures) in
     let same = l.loop-k.invariant.1.1 in
-    prepared x.pre.0 l.loop-k.work (same.size ∙ x.pre.1) same.front (subst (λ (k : ℕ). Phased tab k l.loop-k.work) last l.loop-k.invariant.1.0)
+    prepared x.requires.row_of_table l.loop-k.work (same.size ∙ x.requires.work_len) same.front (subst (λ (k : ℕ). Phased tab k l.loop-k.work) last l.loop-k.invariant.1.0)

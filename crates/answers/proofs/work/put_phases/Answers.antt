@@ -21,11 +21,11 @@ pub loop-j-init : goal.loop-j-init
 loop-j-init c =
     let x = c in
     let t = c.task-x.result in
-    (omega arith, phases-none x.pre.0.kept t.u t.a x.args.work.now x.args.k x.pre.1.1.1)
+    (omega arith, phases-none x.requires.row_of_table.kept t.u t.a x.args.work.now x.args.k x.requires.phased)
 
 -- the row-in-loop-j in front holds the table still
 row-in-loop-j : (c : goal.In-loop-j) → RowOfTable c.loop-j.work × (table_of c.loop-j.work ≡ table_of c.args.work.now)
-row-in-loop-j c = same_row c.pre.0 c.loop-j.invariant.1.same
+row-in-loop-j c = same_row c.requires.row_of_table c.loop-j.invariant.1.same
 
 place : (c : goal.In-loop-j) → IsTask (table_of c.loop-j.work) c.task-x.result.u c.loop-j.j
 place c =
@@ -45,7 +45,7 @@ phase_of-phase-requires c = record { row_of_table = (row-in-loop-j c).0; task = 
 
 -- the row-after-phase_of-phase in front holds the table still
 row-after-phase_of-phase : (c : goal.After-phase_of-phase) → RowOfTable c.loop-j.work × (table_of c.loop-j.work ≡ table_of c.args.work.now)
-row-after-phase_of-phase c = same_row c.pre.0 c.loop-j.invariant.1.same
+row-after-phase_of-phase c = same_row c.requires.row_of_table c.loop-j.invariant.1.same
 
 place-after-phase_of-phase : (c : goal.After-phase_of-phase) → IsTask (table_of c.loop-j.work) c.task-x.result.u c.loop-j.j
 place-after-phase_of-phase c =
@@ -65,7 +65,7 @@ held_of-held-requires c =
     let n = c in record { row_of_table = (row-after-phase_of-phase n).0; task = candidate-after-phase_of-phase n; task_2 = place-after-phase_of-phase n }
 
 few-after-held_of-held : (c : goal.After-held_of-held) → c.tasks-count.result ≤ tasks_most
-few-after-held_of-held c = omega (arith, c.tasks-count.ensures, tasks-few c.requires.0.kept c.task-x.ensures.chosen.is_task.owner)
+few-after-held_of-held c = omega (arith, c.tasks-count.ensures, tasks-few c.requires.row_of_table.kept c.task-x.ensures.chosen.is_task.owner)
 
 -- the candidates are few-after-held_of-held, and so are the places of each
 small-after-held_of-held : (c : goal.After-held_of-held) → c.args.k < tasks_in_all
@@ -78,20 +78,20 @@ pub overflow_add-work : goal.overflow_add-work
 overflow_add-work c = omega (arith, small-after-held_of-held (start c))
 
 pub overflow_add-work-in-loop-j : goal.overflow_add-work-in-loop-j
-overflow_add-work-in-loop-j c = omega (arith, small-after-held_of-held (start c), few-after-held_of-held c, c.loop-test.true)
+overflow_add-work-in-loop-j c = omega (arith, small-after-held_of-held (start c), few-after-held_of-held c, c.loop-j-test.true)
 
 pub offset_bounds-work-k : goal.offset_bounds-work-k
-offset_bounds-work-k c = omega (arith, small-after-held_of-held (start c), few-after-held_of-held c, c.loop-test.true)
+offset_bounds-work-k c = omega (arith, small-after-held_of-held (start c), few-after-held_of-held c, c.loop-j-test.true)
 
 few-after-way_told-1 : (c : goal.After-way_told-1) → c.tasks-count.result ≤ tasks_most
-few-after-way_told-1 c = omega (arith, c.tasks-count.ensures, tasks-few c.requires.0.kept c.task-x.ensures.chosen.is_task.owner)
+few-after-way_told-1 c = omega (arith, c.tasks-count.ensures, tasks-few c.requires.row_of_table.kept c.task-x.ensures.chosen.is_task.owner)
 
 -- the candidates are few-after-way_told-1, and so are the places of each
 small-after-way_told-1 : (c : goal.After-way_told-1) → c.args.k < tasks_in_all
 small-after-way_told-1 c = omega (arith, c.requires.k_bound, c.requires.row_of_table.kept.few_tasks)
 
 pub bounds-work-k : goal.bounds-work-k
-bounds-work-k c = omega (arith, small-after-way_told-1 (start c), few-after-way_told-1 c, c.loop-test.true)
+bounds-work-k c = omega (arith, small-after-way_told-1 (start c), few-after-way_told-1 c, c.loop-j-test.true)
 
 pub overflow_mul-work-in-loop-j : goal.overflow_mul-work-in-loop-j
 overflow_mul-work-in-loop-j c = omega (arith, small-after-way_told-1 (start c))
@@ -100,42 +100,42 @@ pub overflow_add-work-in-loop-j-2 : goal.overflow_add-work-in-loop-j-2
 overflow_add-work-in-loop-j-2 c = omega (arith, small-after-way_told-1 (start c))
 
 pub overflow_add-work-in-loop-j-3 : goal.overflow_add-work-in-loop-j-3
-overflow_add-work-in-loop-j-3 c = omega (arith, small-after-way_told-1 (start c), few-after-way_told-1 c, c.loop-test.true)
+overflow_add-work-in-loop-j-3 c = omega (arith, small-after-way_told-1 (start c), few-after-way_told-1 c, c.loop-j-test.true)
 
 pub offset_bounds-work-k-in-loop-j : goal.offset_bounds-work-k-in-loop-j
-offset_bounds-work-k-in-loop-j c = omega (arith, small-after-way_told-1 (start c), few-after-way_told-1 c, c.loop-test.true)
+offset_bounds-work-k-in-loop-j c = omega (arith, small-after-way_told-1 (start c), few-after-way_told-1 c, c.loop-j-test.true)
 
 pub bounds-work-k-in-loop-j : goal.bounds-work-k-in-loop-j
-bounds-work-k-in-loop-j c = omega (arith, small-after-way_told-1 (start c), few-after-way_told-1 c, c.loop-test.true)
+bounds-work-k-in-loop-j c = omega (arith, small-after-way_told-1 (start c), few-after-way_told-1 c, c.loop-j-test.true)
 
 pub overflow_add-j : goal.overflow_add-j
-overflow_add-j c = omega (arith, few-after-way_told-1 c, c.loop-test.true)
+overflow_add-j c = omega (arith, few-after-way_told-1 c, c.loop-j-test.true)
 
 pub loop-j-smaller : goal.loop-j-smaller
-loop-j-smaller c = omega (arith, c.loop-test.true)
+loop-j-smaller c = omega (arith, c.loop-j-test.true)
 
 -- the row-after-way_told-1 in front holds the table still
 row-after-way_told-1 : (c : goal.After-way_told-1) → RowOfTable c.loop-j.work × (table_of c.loop-j.work ≡ table_of c.args.work.now)
-row-after-way_told-1 c = same_row c.pre.0 c.loop-j.invariant.1.same
+row-after-way_told-1 c = same_row c.requires.row_of_table c.loop-j.invariant.1.same
 
 pub loop-j-preserved : goal.loop-j-preserved
 loop-j-preserved c =
     let l = c in
-    let y = l.before in
+    let y = l in
     let x = y in
-    let t = y.before.before.task.result in
+    let t = y.task-x.result in
     let same = (row-after-way_told-1 l).1 in (
-      omega (arith, c.loop-test.true),
-      phases-next x.pre.0.kept t.u t.a x.args.work.now x.args.k l.loop.j
+      omega (arith, c.loop-j-test.true),
+      phases-next x.requires.row_of_table.kept t.u t.a x.args.work.now x.args.k l.loop-j.j
           c.phase_of-phase.result
           c.held_of-held.result
-          l.loop.work
+          l.loop-j.work
           (small-after-way_told-1 x)
-          (omega (arith, few-after-way_told-1 y, c.loop-test.true))
-          (l.loop.inv.1.same.size ∙ x.pre.1.0)
-          (c.phase_of-phase.ensures ∙ ap (λ (tab : Table). phase_of tab t.u t.a l.loop.j) same)
-          (c.held_of-held.ensures ∙ ap (λ (tab : Table). held_of tab t.u t.a l.loop.j) same)
-          l.loop.inv.1,
+          (omega (arith, few-after-way_told-1 y, c.loop-j-test.true))
+          (l.loop-j.inv.1.same.size ∙ x.requires.work_len)
+          (c.phase_of-phase.ensures ∙ ap (λ (tab : Table). phase_of tab t.u t.a l.loop-j.j) same)
+          (c.held_of-held.ensures ∙ ap (λ (tab : Table). held_of tab t.u t.a l.loop-j.j) same)
+          l.loop-j.inv.1,
     )
 
 pub returns : goal.returns
@@ -147,7 +147,7 @@ returns c =
     let t = y.task-x in
     let i = t.result.u in
     let all : l.loop-j.j ≡ tasks_in (table_of old) i = omega (arith, c.loop-j-test.false, l.loop-j.invariant.0, y.tasks-count.ensures) in record {
-      phased_2 = phases-all x.pre.0.kept i t.result.a old x.args.k l.loop-j.work t.ensures.chosen.is_task t.ensures.numbered
+      phased_2 = phases-all x.requires.row_of_table.kept i t.result.a old x.args.k l.loop-j.work t.ensures.chosen.is_task t.ensures.numbered
           (subst (λ (n : ℕ). PhasesTo (table_of old) x.args.k i t.result.a n old l.loop-j.work) all l.loop-j.invariant.1);
       same_to = l.loop-j.invariant.1.same;
     }

@@ -29,18 +29,18 @@ loop-m-init y =
       omega arith,
       (
         same_refl weights_cell x.work.now,
-        subst (λ (k : ℕ). WeighedTo (table_of x.work.now) x.s.u x.s.a k x.work.now) first y.requires.1.1.1,
+        subst (λ (k : ℕ). WeighedTo (table_of x.work.now) x.s.u x.s.a k x.work.now) first y.requires.weighed_to,
       ),
     )
 
 -- the row of a turn, and after its weights
 present-after-put_weights-arg-1 : (l : goal.After-put_weights-arg-1) → Lent l.loop-m.work × (table_of l.loop-m.work ≡ table_of l.args.work.now)
-present-after-put_weights-arg-1 l = lent_same l.pre.0 l.loop-m.work l.loop-m.invariant.1.0
+present-after-put_weights-arg-1 l = lent_same l.requires.lent l.loop-m.work l.loop-m.invariant.1.0
 
 own-after-put_weights-arg-1 : (y : goal.After-put_weights-arg-1) → TasksOf (table_of y.args.work.now) y.args.i y.before-first.result y.tasks-count.result
 own-after-put_weights-arg-1 y =
     record {
-      owner = y.requires.1.1.0;
+      owner = y.requires.i_bound;
       first = y.before-first.ensures;
       count = y.tasks-count.ensures;
     }
@@ -50,11 +50,11 @@ put_weights-requires c =
     let l = c in
     let y = l in
     let (now, e) = present-after-put_weights-arg-1 l in
-    (now, rw e (y.requires.1.0, (own-after-put_weights-arg-1 y, (omega (arith, c.loop-m-test.true, y.modes-modes.ensures), l.loop-m.invariant.1.1))))
+    (now, rw e (y.requires.chosen, (own-after-put_weights-arg-1 y, (omega (arith, c.loop-m-test.true, y.modes-modes.ensures), l.loop-m.invariant.1.1))))
 
 -- the row of a turn, and after its weights
 present-after-put_sums-arg-1 : (l : goal.After-put_sums-arg-1) → Lent l.loop-m.work × (table_of l.loop-m.work ≡ table_of l.args.work.now)
-present-after-put_sums-arg-1 l = lent_same l.pre.0 l.loop-m.work l.loop-m.invariant.1.0
+present-after-put_sums-arg-1 l = lent_same l.requires.lent l.loop-m.work l.loop-m.invariant.1.0
 
 weighed-after-put_sums-arg-1 :
     (p : goal.After-put_sums-arg-1)
@@ -64,7 +64,7 @@ weighed-after-put_sums-arg-1 p = lent_same (present-after-put_sums-arg-1 p).0 p.
 own-after-put_sums-arg-1 : (y : goal.After-put_sums-arg-1) → TasksOf (table_of y.args.work.now) y.args.i y.before-first.result y.tasks-count.result
 own-after-put_sums-arg-1 y =
     record {
-      owner = y.requires.1.1.0;
+      owner = y.requires.i_bound;
       first = y.before-first.ensures;
       count = y.tasks-count.ensures;
     }
@@ -82,14 +82,14 @@ put_sums-requires c =
 pub overflow_add-m : goal.overflow_add-m
 overflow_add-m c =
     let n = c in
-    omega (arith, n.loop-m-test.true, modes-few n.pre.0.table.kept n.pre.1.1.0)
+    omega (arith, n.loop-m-test.true, modes-few n.requires.lent.table.kept n.requires.i_bound)
 
 pub loop-m-smaller : goal.loop-m-smaller
 loop-m-smaller c = omega (arith, c.loop-m-test.true)
 
 -- the row of a turn, and after its weights
 present-after-put_sums : (l : goal.After-put_sums) → Lent l.loop-m.work × (table_of l.loop-m.work ≡ table_of l.args.work.now)
-present-after-put_sums l = lent_same l.pre.0 l.loop-m.work l.loop-m.invariant.1.0
+present-after-put_sums l = lent_same l.requires.lent l.loop-m.work l.loop-m.invariant.1.0
 
 weighed-after-put_sums :
     (p : goal.After-put_sums)
@@ -117,6 +117,6 @@ returns c =
     let (most, (same, done)) = l.loop-m.invariant in
     let all : l.loop-m.m ≡ modes_in (table_of x.work.now) x.i = omega (arith, c.loop-m-test.false, y.modes-modes.ensures) in record {
       same_to = same;
-      weighed_to_2 = weighed-next y.requires.0.table.kept x.s.u x.s.a x.i
+      weighed_to_2 = weighed-next y.requires.lent.table.kept x.s.u x.s.a x.i
           (subst (λ (m : ℕ). WeighedTo (table_of x.work.now) x.s.u x.s.a (modes_most * x.i + m) l.loop-m.work) all done);
     }
