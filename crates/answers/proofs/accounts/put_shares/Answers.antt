@@ -17,7 +17,7 @@ use Rattle.answers.proofs.accounts.put_shares.Goals as goal
 pub split_of-x-requires : goal.split_of-x-requires
 split_of-x-requires c =
     let s = c in
-    let (lent, (subject, rest)) = s.requires in record { row_of_table = lent.table; i_bound = subject.chosen.is_task.owner; t_bound = omega (arith, c.wide.ensures, s.ranges.t.fits) }
+    let lent = s.requires.lent in let subject = s.requires.subject in record { row_of_table = lent.table; i_bound = subject.chosen.is_task.owner; t_bound = omega (arith, c.wide.ensures, s.ranges.t.fits) }
 
 pub loop-j-init : goal.loop-j-init
 loop-j-init c =
@@ -42,7 +42,7 @@ pub overflow_add-j : goal.overflow_add-j
 overflow_add-j c =
     let n = c in
     let p = n in
-    let (lent, (subject, rest)) = p.requires in
+    let lent = p.requires.lent in let subject = p.requires.subject in
     omega (arith, n.loop-j-test.true, p.split_of-x.ensures.is_split.count, tasks-few lent.table.kept subject.chosen.is_task.owner)
 
 pub loop-j-preserved : goal.loop-j-preserved
@@ -55,7 +55,7 @@ loop-j-preserved c =
     let a = s.args in
     let tab = table_of a.work.now in
     let j = l.loop-j.j in
-    let (lent, (subject, rest)) = s.requires in
+    let lent = s.requires.lent in let subject = s.requires.subject in
     let there : j < tasks tab a.s.u = omega (arith, n.loop-j-test.true, p.split_of-x.ensures.is_split.count) in (
       omega arith,
       c.put.ensures

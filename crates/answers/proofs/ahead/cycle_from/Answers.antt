@@ -12,7 +12,7 @@ loop-z-init c = (none, omega arith)
 pub follower-value-requires : goal.follower-value-requires
 follower-value-requires c =
     let lent = c.requires.lent in let subject = c.requires.subject in let turn = c.requires.instant in let some = c.requires.le_mark in let short = c.requires.far_bound in
-    (lent, (subject, (turn, omega arith)))
+    record { lent = lent; subject = subject; instant = turn; le_z = omega arith; far_bound = omega arith; end_le_horizon = omega arith }
 
 pub returns-then-value-z : goal.returns-then-value-z
 returns-then-value-z c = λ some. absurd (some refl)

@@ -8,12 +8,12 @@ use Rattle.answers.proofs.answers.named.Goals as goal
 
 pub number-requires : goal.number-requires
 number-requires c =
-    let (lent, (is_task, fit)) = c.requires in record { row_of_table = lent.table; task = is_task }
+    let lent = c.requires.lent in let is_task = c.requires.task in record { row_of_table = lent.table; task = is_task }
 
 pub overflow_cast-result-2 : goal.overflow_cast-result-2
 overflow_cast-result-2 c =
     let s = c in
-    let (lent, (is_task, fit)) = s.requires in
+    let lent = s.requires.lent in let is_task = s.requires.task in
     omega (arith, c.number.ensures, number_lt (table_of s.args.work.now) is_task, lent.table.kept.few_tasks)
 
 pub returns : goal.returns

@@ -17,7 +17,7 @@ loop-made-init c =
 pub busy-value-requires : goal.busy-value-requires
 busy-value-requires c =
     let lent = c.requires.lent in let subject = c.requires.subject in let turn = c.requires.instant in let within = c.requires.used_le_budget in
-    (lent, (subject, (turn, c.loop-made.invariant.1.0)))
+    record { lent = lent; subject = subject; instant = turn; le_t = c.loop-made.invariant.1.0.0; t_le_horizon = c.loop-made.invariant.1.0.1 }
 
 pub returns-then-value-t : goal.returns-then-value-t
 returns-then-value-t c =

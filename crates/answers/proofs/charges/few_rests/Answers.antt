@@ -64,7 +64,7 @@ pub rest_of-one-requires : goal.rest_of-one-requires
 rest_of-one-requires c =
     let s = c in
     let setting = s.requires.setting in
-    simp add-zero at (rest-needs setting.lent setting.split setting.subject setting.mode setting.is_task 0 (omega (arith, few-after-rest_of-arg-2-1 s)))
+    let h = simp add-zero at (rest-needs setting.lent setting.split setting.subject setting.mode setting.is_task 0 (omega (arith, few-after-rest_of-arg-2-1 s))) in record { period_bound = h.0; rest_lt_period = h.1.0; phase_lt_period = h.1.1.0; weight_bound = h.1.1.1 }
 
 few-then-x-eq1 : (s : goal.Then-x-eq1) → InWork s.args.x s.args.m s.args.c
 few-then-x-eq1 s =
@@ -115,7 +115,7 @@ pub rest_of-requires : goal.rest_of-requires
 rest_of-requires c =
     let s = c in
     let setting = s.requires.setting in
-    rest-needs setting.lent setting.split setting.subject setting.mode setting.is_task 1 (omega (arith, few-after-rest_of-arg-4-1 s))
+    let h = rest-needs setting.lent setting.split setting.subject setting.mode setting.is_task 1 (omega (arith, few-after-rest_of-arg-4-1 s)) in record { period_bound = h.0; rest_lt_period = h.1.0; phase_lt_period = h.1.1.0; weight_bound = h.1.1.1 }
 
 few-after-rest_of : (s : goal.After-rest_of) → InWork s.args.x s.args.m s.args.c
 few-after-rest_of s =
@@ -178,7 +178,7 @@ pub rest_of-requires-2 : goal.rest_of-requires-2
 rest_of-requires-2 c =
     let s = c in
     let setting = s.requires.setting in
-    rest-needs setting.lent setting.split setting.subject setting.mode setting.is_task 2 (omega (arith, few-after-rest_of-arg-6-1 s))
+    let h = rest-needs setting.lent setting.split setting.subject setting.mode setting.is_task 2 (omega (arith, few-after-rest_of-arg-6-1 s)) in record { period_bound = h.0; rest_lt_period = h.1.0; phase_lt_period = h.1.1.0; weight_bound = h.1.1.1 }
 
 few-after-rest_of-2 : (s : goal.After-rest_of-2) → InWork s.args.x s.args.m s.args.c
 few-after-rest_of-2 s =

@@ -54,7 +54,7 @@ bounds-work-x c = omega (arith, few-after-way_told-1 c)
 pub loop-z-init : goal.loop-z-init
 loop-z-init c =
     let d = c in
-    let (lent, (subject, rest)) = d.requires in
+    let lent = d.requires.lent in let subject = d.requires.subject in
     let split = d.split_of-x.ensures.is_split in
     rw c.index-z.ensures
     (along-first lent.table.kept d.args.whole split.owner (moment d.split_of-x.result) (first-setting subject lent.table.kept split))
@@ -130,7 +130,7 @@ pub loop-z-preserved : goal.loop-z-preserved
 loop-z-preserved c =
     let b = c in
     let d = b in
-    let (lent, (subject, rest)) = d.requires in
+    let lent = d.requires.lent in let subject = d.requires.subject in
     let along = b.loop-z.invariant in
     let next = next-setting subject (at-after-index-z-in-loop-z b) (along.charged _ _ (at-after-index-z-in-loop-z b)).mode in
     rw (c.setting_charge-best.ensures, c.index-z-in-loop-z.ensures)

@@ -76,7 +76,7 @@ pub rest_of-sum-requires : goal.rest_of-sum-requires
 rest_of-sum-requires c =
     let s = c in
     let setting = s.requires in
-    rest-needs setting.lent setting.split setting.subject setting.mode setting.is_task c.loop-j.j (omega arith)
+    let h = rest-needs setting.lent setting.split setting.subject setting.mode setting.is_task c.loop-j.j (omega arith) in record { period_bound = h.0; rest_lt_period = h.1.0; phase_lt_period = h.1.1.0; weight_bound = h.1.1.1 }
 
 few-after-rest_of-sum : (s : goal.After-rest_of-sum) → InWork s.args.x s.args.m s.args.c
 few-after-rest_of-sum s =
@@ -89,7 +89,7 @@ overflow_add-sum c =
     let setting = s.requires in
     let j = c.loop-j.j in
     let few = rests-room setting.lent setting.split setting.subject setting.mode setting.is_task s.args.whole j (omega arith) in
-    omega (arith, few-after-rest_of-sum, c.rest_of-sum.ensures)
+    omega (arith, few, c.rest_of-sum.ensures)
 
 pub loop-j-preserved : goal.loop-j-preserved
 loop-j-preserved c = (omega arith, rw sum-next (omega (arith, c.rest_of-sum.ensures)))

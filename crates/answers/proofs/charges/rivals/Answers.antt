@@ -31,7 +31,7 @@ pub overflow_add-sum : goal.overflow_add-sum
 overflow_add-sum c =
     let s = c in
     let few = others-few s.args.whole s.args.t.0 c.loop-i.invariant s.requires.lent.table.kept s.requires.t_le_horizon in
-    omega (arith, few-after-struct_known-1 (omega (arith, c.transactions-count.ensures)), c.greatest-sum.ensures)
+    omega (arith, few (omega (arith, c.transactions-count.ensures)), c.greatest-sum.ensures)
 
 pub overflow_add-i : goal.overflow_add-i
 overflow_add-i c = omega (arith, few-after-struct_known-1 c)
@@ -88,13 +88,8 @@ returns c =
     let all : c.loop-i.i ≡ transactions (table_of c.args.work.now) = omega (arith, charges.within, c.transactions-count.ensures) in
     cc charges.sum
 
--- the places read lie within the cells
-few-after-struct_known-2-1 : (c : goal.After-struct_known-2-1) → c.loop-i.i < transactions_most
-few-after-struct_known-2-1 c =
-    omega (arith, c.transactions-count.ensures, c.requires.lent.table.kept.few_transactions)
-
 pub overflow_add-result : goal.overflow_add-result
 overflow_add-result c =
     let s = c in
     let few = rivals-le s.requires.lent.table.kept s.args.whole s.requires.t_le_horizon s.args.s.u s.args.s.a s.requires.task.owner s.requires.m_bound in
-    omega (arith, returns c, few-after-struct_known-2-1 s.args.c)
+    omega (arith, returns c, few s.args.c)

@@ -62,6 +62,20 @@ pub bounds-work-cell-3 : goal.bounds-work-cell-3
 bounds-work-cell-3 c = omega (arith, few-after-index c)
 
 -- a period is not 0
+some-after-index-2 : (s : goal.After-index-2) → 0 < period (table_of s.args.work.now) s.args.i
+some-after-index-2 s = kept-period s.requires.row_of_table.kept s.requires.i_bound
+
+pub nonzero_rem-result : goal.nonzero_rem-result
+nonzero_rem-result c =
+    let s = c in
+    omega (arith, some-after-index-2 s, held-period s.args.work.now s.requires.i_bound)
+
+pub nonzero_div-at : goal.nonzero_div-at
+nonzero_div-at c =
+    let s = c in
+    omega (arith, some-after-index-2 s, held-period s.args.work.now s.requires.i_bound)
+
+-- a period is not 0
 some-after-wide : (s : goal.After-wide) → 0 < period (table_of s.args.work.now) s.args.i
 some-after-wide s = kept-period s.requires.row_of_table.kept s.requires.i_bound
 

@@ -16,6 +16,7 @@ use Rattle.answers.proofs.Filling.{same_refl, same_set, same-trans, same-less}
 use Rattle.answers.proofs.Linking.{weighs-same, others-none, others_put}
 use Rattle.charge.proofs.Links.{other-end, other-self, other-idle}
 use Rattle.answers.proofs.links.link_others.Goals as goal
+use Rattle.answers.proofs.links.link_others.Goals.{then-not-idle, else-not-idle}
 
 -- the transactions are few
 few : (y : goal.After-transactions-i) → y.transactions-i.result ≤ transactions_most
@@ -178,15 +179,13 @@ loop-i-preserved c =
     let (lent, (weighs, e)) = present-after-way_told-in-loop-i-1 l in
     let back : l.loop-i.i ≡ i + 1 = omega arith in
     let now : NextOther tab s.u s.a i c.if-not-idle.next =
-    ⊎_elim
-    (λ w.
-    rw w.1
-    (other-self (omega (arith, y.transactions-i.ensures, ap transactions_in (ended-table-after-way_told-in-loop-i-1 y))) (c.is_idle-idle.ensures.not_i (not-true _ w.0.taken))))
-    (λ w.
-    rw w.1
-    (other-idle (subst (λ (t : Table). Idle t s.u s.a i) e (c.is_idle-idle.ensures.idle (not-false _ w.0.left)))
-    (subst (λ (n : ℕ). NextOther tab s.u s.a n l.loop-i.next) back next)))
-    c.if-not-idle.branch in
+    elim c.if-not-idle.branch [
+      | then-not-idle w ↦ rw w.next-is
+          (other-self (omega (arith, y.transactions-i.ensures, ap transactions_in (ended-table-after-way_told-in-loop-i-1 y))) (c.is_idle-idle.ensures.not_i (not-true _ w.if-not-idle.true)))
+      | else-not-idle w ↦ rw w.next-is
+          (other-idle (subst (λ (t : Table). Idle t s.u s.a i) e (c.is_idle-idle.ensures.idle (not-false _ w.if-not-idle.false)))
+          (subst (λ (n : ℕ). NextOther tab s.u s.a n l.loop-i.next) back next))
+    ] in
     let before = subst (λ (n : ℕ). OthersFrom tab s.u s.a n l.loop-i.work) back done in (
       omega arith,
       (

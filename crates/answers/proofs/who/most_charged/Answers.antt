@@ -10,7 +10,7 @@ use Rattle.answers.proofs.Most.{in-modes-next}
 use Rattle.answers.proofs.who.most_charged.Goals as goal
 
 pub split_of-x-requires : goal.split_of-x-requires
-split_of-x-requires c = (c.requires.lent.table, c.requires.1.1)
+split_of-x-requires c = record { row_of_table = c.requires.lent.table; i_bound = c.requires.i_bound; t_bound = c.requires.t_bound }
 
 pub modes-count-requires : goal.modes-count-requires
 modes-count-requires c = record { row_of_table = c.requires.lent.table; i_bound = c.requires.i_bound }
@@ -22,7 +22,7 @@ loop-m-init c = (omega arith, refl)
 pub mode-most-requires : goal.mode-most-requires
 mode-most-requires c =
     let d = c in
-    let (lent, (subject, rest)) = d.requires in record { lent = lent; subject = subject; split = d.split_of-x.ensures.is_split; m_bound = omega (arith, d.modes-count.ensures) }
+    let lent = d.requires.lent in let subject = d.requires.subject in record { lent = lent; subject = subject; split = d.split_of-x.ensures.is_split; m_bound = omega (arith, d.modes-count.ensures) }
 
 pub loop-m-preserved : goal.loop-m-preserved
 loop-m-preserved c = (omega arith, rw (in-modes-next, ← c.loop-m.invariant.1) c.mode-most.ensures)

@@ -1,5 +1,6 @@
 -- The phase of the offset from the instant that the candidate sets.
 use mathlib.Core.Path.{◌≡◌, ◌∙◌}
+use mathlib.Core.List.{List}
 use Prim.Native.Nat.{ℕ}
 use native.Mathlib.Omega.{arith}
 use Rattle.table.specs.Table.{period, offset, jitter}
@@ -10,18 +11,18 @@ use Rattle.analysis.specs.Charge.{phase_of}
 use Rattle.answers.proofs.work.phase_of.Goals as goal
 
 -- what was read: the period, the offset of the task, and the offset and the jitter of the candidate
-record Read (s : goal.Start) (T O P J : ℕ) : Type 0 where
-  every : T ≡ period (table_of s.args.work.now) s.args.i
-  from : O ≡ offset (table_of s.args.work.now) s.args.i s.args.j
-  sets : P ≡ offset (table_of s.args.work.now) s.args.i s.args.c
-  waits : J ≡ jitter (table_of s.args.work.now) s.args.i s.args.c
+record Read (work : List ℕ) (i c j T O P J : ℕ) : Type 0 where
+  every : T ≡ period (table_of work) i
+  from : O ≡ offset (table_of work) i j
+  sets : P ≡ offset (table_of work) i c
+  waits : J ≡ jitter (table_of work) i c
 
 read :
     (c : goal.After-jitter)
     → let o = c in
     let p = o in
     let f = p in
-    Read f p.period.result f.offset-offset.result o.offset.result c.jitter.result
+    Read c.args.work.now c.args.i c.args.c c.args.j p.period.result f.offset-offset.result o.offset.result c.jitter.result
 read c =
     let o = c in
     let p = o in
@@ -49,7 +50,7 @@ read-after-phase :
     → let o = c in
     let p = o in
     let f = p in
-    Read f p.period.result f.offset-offset.result o.offset.result c.jitter.result
+    Read c.args.work.now c.args.i c.args.c c.args.j p.period.result f.offset-offset.result o.offset.result c.jitter.result
 read-after-phase c =
     let o = c in
     let p = o in

@@ -26,13 +26,12 @@ put_phases-requires c =
     let n = c in
     let l = n in
     let x = l in
-    let (is_row, same) = row-after-put_phases-arg-1 l in (
-      is_row,
-      (
-        l.loop-k.invariant.1.1.size ∙ x.requires.work_len,
-        rw same (omega (arith, n.loop-k-test.true, l.in_all-count.ensures), l.loop-k.invariant.1.0),
-      ),
-    )
+    let (is_row, same) = row-after-put_phases-arg-1 l in record {
+      row_of_table = is_row;
+      work_len = l.loop-k.invariant.1.1.size ∙ x.requires.work_len;
+      k_bound = rw same (omega (arith, n.loop-k-test.true, l.in_all-count.ensures));
+      phased = rw same l.loop-k.invariant.1.0;
+    }
 
 pub overflow_add-k : goal.overflow_add-k
 overflow_add-k c =
@@ -61,4 +60,4 @@ returns c =
     let tab = table_of x.args.work.now in
     let last : l.loop-k.k ≡ in_all tab = omega (arith, c.loop-k-test.false, l.loop-k.invariant.0, l.in_all-count.ensures) in
     let same = l.loop-k.invariant.1.1 in
-    prepared x.requires.row_of_table l.loop-k.work (same.size ∙ x.requires.work_len) same.front (subst (λ (k : ℕ). Phased tab k l.loop-k.work) last l.loop-k.invariant.1.0)
+    let made = prepared x.requires.row_of_table l.loop-k.work (same.size ∙ x.requires.work_len) same.front (subst (λ (k : ℕ). Phased tab k l.loop-k.work) last l.loop-k.invariant.1.0) in record { lent = made.0; work_unchanged = made.1 }

@@ -72,16 +72,16 @@ small-after-held_of-held : (c : goal.After-held_of-held) → c.args.k < tasks_in
 small-after-held_of-held c = omega (arith, c.requires.k_bound, c.requires.row_of_table.kept.few_tasks)
 
 pub overflow_mul-work : goal.overflow_mul-work
-overflow_mul-work c = omega (arith, small-after-held_of-held (start c))
+overflow_mul-work c = omega (arith, small-after-held_of-held c)
 
 pub overflow_add-work : goal.overflow_add-work
-overflow_add-work c = omega (arith, small-after-held_of-held (start c))
+overflow_add-work c = omega (arith, small-after-held_of-held c)
 
 pub overflow_add-work-in-loop-j : goal.overflow_add-work-in-loop-j
-overflow_add-work-in-loop-j c = omega (arith, small-after-held_of-held (start c), few-after-held_of-held c, c.loop-j-test.true)
+overflow_add-work-in-loop-j c = omega (arith, small-after-held_of-held c, few-after-held_of-held c, c.loop-j-test.true)
 
 pub offset_bounds-work-k : goal.offset_bounds-work-k
-offset_bounds-work-k c = omega (arith, small-after-held_of-held (start c), few-after-held_of-held c, c.loop-j-test.true)
+offset_bounds-work-k c = omega (arith, small-after-held_of-held c, few-after-held_of-held c, c.loop-j-test.true)
 
 few-after-way_told-1 : (c : goal.After-way_told-1) → c.tasks-count.result ≤ tasks_most
 few-after-way_told-1 c = omega (arith, c.tasks-count.ensures, tasks-few c.requires.row_of_table.kept c.task-x.ensures.chosen.is_task.owner)
@@ -91,22 +91,22 @@ small-after-way_told-1 : (c : goal.After-way_told-1) → c.args.k < tasks_in_all
 small-after-way_told-1 c = omega (arith, c.requires.k_bound, c.requires.row_of_table.kept.few_tasks)
 
 pub bounds-work-k : goal.bounds-work-k
-bounds-work-k c = omega (arith, small-after-way_told-1 (start c), few-after-way_told-1 c, c.loop-j-test.true)
+bounds-work-k c = omega (arith, small-after-way_told-1 c, few-after-way_told-1 c, c.loop-j-test.true)
 
 pub overflow_mul-work-in-loop-j : goal.overflow_mul-work-in-loop-j
-overflow_mul-work-in-loop-j c = omega (arith, small-after-way_told-1 (start c))
+overflow_mul-work-in-loop-j c = omega (arith, small-after-way_told-1 c)
 
 pub overflow_add-work-in-loop-j-2 : goal.overflow_add-work-in-loop-j-2
-overflow_add-work-in-loop-j-2 c = omega (arith, small-after-way_told-1 (start c))
+overflow_add-work-in-loop-j-2 c = omega (arith, small-after-way_told-1 c)
 
 pub overflow_add-work-in-loop-j-3 : goal.overflow_add-work-in-loop-j-3
-overflow_add-work-in-loop-j-3 c = omega (arith, small-after-way_told-1 (start c), few-after-way_told-1 c, c.loop-j-test.true)
+overflow_add-work-in-loop-j-3 c = omega (arith, small-after-way_told-1 c, few-after-way_told-1 c, c.loop-j-test.true)
 
 pub offset_bounds-work-k-in-loop-j : goal.offset_bounds-work-k-in-loop-j
-offset_bounds-work-k-in-loop-j c = omega (arith, small-after-way_told-1 (start c), few-after-way_told-1 c, c.loop-j-test.true)
+offset_bounds-work-k-in-loop-j c = omega (arith, small-after-way_told-1 c, few-after-way_told-1 c, c.loop-j-test.true)
 
 pub bounds-work-k-in-loop-j : goal.bounds-work-k-in-loop-j
-bounds-work-k-in-loop-j c = omega (arith, small-after-way_told-1 (start c), few-after-way_told-1 c, c.loop-j-test.true)
+bounds-work-k-in-loop-j c = omega (arith, small-after-way_told-1 c, few-after-way_told-1 c, c.loop-j-test.true)
 
 pub overflow_add-j : goal.overflow_add-j
 overflow_add-j c = omega (arith, few-after-way_told-1 c, c.loop-j-test.true)
@@ -132,10 +132,10 @@ loop-j-preserved c =
           l.loop-j.work
           (small-after-way_told-1 x)
           (omega (arith, few-after-way_told-1 y, c.loop-j-test.true))
-          (l.loop-j.inv.1.same.size ∙ x.requires.work_len)
+          (l.loop-j.invariant.1.same.size ∙ x.requires.work_len)
           (c.phase_of-phase.ensures ∙ ap (λ (tab : Table). phase_of tab t.u t.a l.loop-j.j) same)
           (c.held_of-held.ensures ∙ ap (λ (tab : Table). held_of tab t.u t.a l.loop-j.j) same)
-          l.loop-j.inv.1,
+          l.loop-j.invariant.1,
     )
 
 pub returns : goal.returns

@@ -26,13 +26,12 @@ held_back-held-requires c =
     let x = l.args in
     let lent = l.requires.lent in let own = l.requires.tasks_of in let mode = l.requires.m_bound in let done = l.requires.weighed_to in let loaded = l.requires.mode_weighed in
     let (now, e) = present-in-loop-c l in
-    (now, rw e (own, (mode, (mode-weighed-same lent.table.kept x.s.u x.s.a own.owner mode l.loop-c.invariant.1.same loaded, c.loop-c-test.true))))
+    record { lent = now; tasks_of = rw e own; m_bound = rw e mode; mode_weighed = rw e (mode-weighed-same lent.table.kept x.s.u x.s.a own.owner mode l.loop-c.invariant.1.same loaded); c_lt_count = c.loop-c-test.true }
 
 -- the cells stored lie within the row
 few-after-held_back-held : (d : goal.After-held_back-held) → (d.args.first + d.loop-c.c < tasks_in_all) × (d.args.m < modes_most)
 few-after-held_back-held d =
-    let (lent, (own, (mode, rest))) = d.requires in
-    small lent.table.kept own mode d.loop-c-test.true
+    small d.requires.lent.table.kept d.requires.tasks_of d.requires.m_bound d.loop-c-test.true
 
 pub overflow_add-at : goal.overflow_add-at
 overflow_add-at c = omega (arith, few-after-held_back-held c)
@@ -55,8 +54,7 @@ offset_bounds-work-at c = omega (arith, few-after-held_back-held c)
 -- the cells stored lie within the row
 few-after-way_told-1 : (d : goal.After-way_told-1) → (d.args.first + d.loop-c.c < tasks_in_all) × (d.args.m < modes_most)
 few-after-way_told-1 d =
-    let (lent, (own, (mode, rest))) = d.requires in
-    small lent.table.kept own mode d.loop-c-test.true
+    small d.requires.lent.table.kept d.requires.tasks_of d.requires.m_bound d.loop-c-test.true
 
 pub bounds-work-at : goal.bounds-work-at
 bounds-work-at c = omega (arith, few-after-way_told-1 c)

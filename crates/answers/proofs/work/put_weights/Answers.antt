@@ -35,7 +35,7 @@ weight-weight-requires c =
     let l = c in
     let lent = l.requires.lent in let chosen = l.requires.chosen in let own = l.requires.tasks_of in let mode = l.requires.m_bound in let done = l.requires.weighed_to in
     let (now, e) = present-in-loop-j l in
-    (now.table, rw e (chosen, (record { owner = own.owner; place = omega (arith, own.count, c.loop-j-test.true) }, (mode, omega (arith, own.first)))))
+    record { row_of_table = now.table; chosen = rw e chosen; task = rw e (record { owner = own.owner; place = omega (arith, own.count, c.loop-j-test.true) }); m_bound = rw e mode; k_value = rw e (omega (arith, own.first)) }
 
 -- the cells stored lie within the row
 few-after-weight-weight : (c : goal.After-weight-weight) → (c.args.first + c.loop-j.j < tasks_in_all) × (c.args.m < modes_most)
@@ -130,5 +130,5 @@ returns c =
     let lent = l.requires.lent in let chosen = l.requires.chosen in let own = l.requires.tasks_of in let mode = l.requires.m_bound in let done = l.requires.weighed_to in
     let (most, to) = l.loop-j.invariant in
     let all : l.loop-j.j ≡ x.count = omega (arith, c.loop-j-test.false) in
-    weights-all lent.table.kept x.s.u x.s.a own mode (to.same.size ∙ lent.size)
-    (subst (λ (n : ℕ). WeightsTo (table_of x.work.now) x.s.u x.s.a x.i x.m x.first n l.loop-j.mode-weight x.work.now l.loop-j.work) all to)
+    let made = weights-all lent.table.kept x.s.u x.s.a own mode (to.same.size ∙ lent.size)
+    (subst (λ (n : ℕ). WeightsTo (table_of x.work.now) x.s.u x.s.a x.i x.m x.first n l.loop-j.mode_weight x.work.now l.loop-j.work) all to) in record { same_to = made.0; weighed_to_2 = made.1.0; mode_weighed = made.1.1 }

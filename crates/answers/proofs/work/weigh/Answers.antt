@@ -27,7 +27,7 @@ pub weigh_transaction-requires : goal.weigh_transaction-requires
 weigh_transaction-requires c =
     let l = c in
     let (now, e) = present-after-weigh_transaction-arg-1 l in
-    (now, rw e (l.requires.chosen, (omega (arith, c.loop-i-test.true, l.transactions-count.ensures), l.loop-i.invariant.1.1)))
+    record { lent = now; chosen = rw e l.requires.chosen; i_bound = rw e (omega (arith, c.loop-i-test.true, l.transactions-count.ensures)); weighed_to = rw e l.loop-i.invariant.1.1 }
 
 pub overflow_add-i : goal.overflow_add-i
 overflow_add-i c = omega (arith, c.loop-i-test.true, c.requires.lent.table.kept.few_transactions)

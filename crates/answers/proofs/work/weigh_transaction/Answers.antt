@@ -50,7 +50,7 @@ put_weights-requires c =
     let l = c in
     let y = l in
     let (now, e) = present-after-put_weights-arg-1 l in
-    (now, rw e (y.requires.chosen, (own-after-put_weights-arg-1 y, (omega (arith, c.loop-m-test.true, y.modes-modes.ensures), l.loop-m.invariant.1.1))))
+    record { lent = now; chosen = rw e y.requires.chosen; tasks_of = rw e (own-after-put_weights-arg-1 y); m_bound = rw e (omega (arith, c.loop-m-test.true, y.modes-modes.ensures)); weighed_to = rw e l.loop-m.invariant.1.1 }
 
 -- the row of a turn, and after its weights
 present-after-put_sums-arg-1 : (l : goal.After-put_sums-arg-1) → Lent l.loop-m.work × (table_of l.loop-m.work ≡ table_of l.args.work.now)
@@ -77,7 +77,7 @@ put_sums-requires c =
     let (now, e) = weighed-after-put_sums-arg-1 p in
     let same = p.put_weights.ensures.same_to in let done = p.put_weights.ensures.weighed_to_2 in let loaded = p.put_weights.ensures.mode_weighed in
     let here = e ∙ (present-after-put_sums-arg-1 l).1 in
-    (now, (rw here (own-after-put_sums-arg-1 y), (rw here (omega (arith, p.loop-m-test.true, y.modes-modes.ensures)), rw e (done, loaded))))
+    record { lent = now; tasks_of = rw here (own-after-put_sums-arg-1 y); m_bound = rw here (omega (arith, p.loop-m-test.true, y.modes-modes.ensures)); weighed_to = rw e done; mode_weighed = rw e loaded }
 
 pub overflow_add-m : goal.overflow_add-m
 overflow_add-m c =

@@ -23,7 +23,7 @@ pub returns-in_default : goal.returns-in_default
 returns-in_default c =
     let a = c.args in
     let next = jobs-next imposed (table_of a.work.now) a.s.u a.s.a a.x.mode a.x.candidate a.jobs.0 c.loop-n.n c.loop-n-test.true in
-    going-stops c.loop-n.invariant next c.job-step.ensures (stays c.job-step.result c.in-Through.keys2)
+    going-stops c.loop-n.invariant next c.job-step.ensures (stays c.job-step.result c.in_default.not-Through)
 
 pub overflow_add-n : goal.overflow_add-n
 overflow_add-n c =

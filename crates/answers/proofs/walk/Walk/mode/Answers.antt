@@ -51,7 +51,7 @@ returns-in_default c =
     let d = c in
     let a = d.args in
     let next = candidates-next imposed (table_of a.work.now) a.s.u a.s.a a.m d.tasks-count.result d.loop-c.c c.loop-c-test.true in
-    going-stops d.loop-c.invariant next c.candidate-step.ensures (stays c.candidate-step.result c.in-Through.keys2)
+    going-stops d.loop-c.invariant next c.candidate-step.ensures (stays c.candidate-step.result c.in_default.not-Through)
 
 pub loop-c-preserved : goal.loop-c-preserved
 loop-c-preserved c =

@@ -32,7 +32,7 @@ returns-in_default c =
     let d = c in
     let a = d.args in
     let next = modes-next imposed (table_of a.work.now) a.s.u a.s.a d.modes-count.result d.loop-m.m c.loop-m-test.true in
-    going-stops d.loop-m.invariant next c.mode-step.ensures (stays c.mode-step.result c.in-Through.keys2)
+    going-stops d.loop-m.invariant next c.mode-step.ensures (stays c.mode-step.result c.in_default.not-Through)
 
 pub loop-m-preserved : goal.loop-m-preserved
 loop-m-preserved c =

@@ -54,7 +54,7 @@ pub last_job-requires : goal.last_job-requires
 last_job-requires c =
     let d = c in
     let lent = d.requires.lent in let subject = d.requires.subject in let setting = d.requires.setting in let within = d.requires.used_le_budget in
-    (instant-phase lent.table.kept subject.chosen.is_task (own-after-first-1 d), (instant-period lent.table.kept subject.chosen.is_task (own-after-first-1 d), (comes-after-first-1 c).0.0))
+    record { phase_lt_period = instant-phase lent.table.kept subject.chosen.is_task (own-after-first-1 d); period_bound = instant-period lent.table.kept subject.chosen.is_task (own-after-first-1 d); le_t = (comes-after-first-1 c).0.0.0; t_le_horizon = (comes-after-first-1 c).0.0.1 }
 
 abbrev tab-after-last_job : goal.After-last_job → Table
 tab-after-last_job c = table_of c.args.work.now
