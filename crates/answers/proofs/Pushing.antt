@@ -1,15 +1,11 @@
 -- Who pushed a task, in the code's own types: where an answer is no bound, what is told of an answer that is explained, why the parts
 -- of a bound fit their cells, and who charges most.
-use mathlib.Core.Path.{◌≡◌, sym, ◌∙◌, subst}
-use mathlib.Core.List.{[], ◌∷◌}
-use mathlib.Core.Logic.{⊎_elim}
+use mathlib.Core.Path.{◌≡◌, refl, sym, ◌∙◌, subst}
 use lib.Dec.{T}
 use lib.IntN.{pos, ◌+ℤ◌, ◌-ℤ◌}
 use lib.Signed.{non_neg}
 use Prim.Native.Nat.{ℕ, ◌≤◌}
 use native.Mathlib.Omega.{arith}
-use denote.Enum.Declared.{tag_of}
-use types.Run.{OneOf}
 use Rattle.table.specs.Table.{Table, IsTask, offset}
 use Rattle.table.specs.Limits.{horizon}
 use Rattle.table.specs.Kept.{Kept}
@@ -26,7 +22,7 @@ use Rattle.analysis.proofs.Parts.{completion-back, made_of, made-within}
 use Rattle.told.specs.declared.TaskAnswer.{TaskAnswer}
 use Rattle.told.specs.declared.TaskAnswer.TheVariants.{Bound, Overload, Beyond, Spent}
 use Rattle.told.specs.Answered.{meant}
-use Rattle.told.specs.contracts.TaskAnswer.{the_type}
+use Rattle.told.specs.declared.Named.{Named}
 use Rattle.parts.specs.Parts.{NoBound, MadeFor}
 use Rattle.parts.specs.declared.Parts as parts
 use Rattle.parts.specs.declared.Made.TheVariants as made
@@ -35,9 +31,9 @@ use Rattle.answers.specs.declared.pushed.Explained.TheVariants as explained
 use Rattle.answers.specs.Explained.{Explains}
 
 -- any answer but the first is no bound
-pub no_bound : (x : TaskAnswer) → OneOf (1 ∷ 2 ∷ 3 ∷ []) (tag_of the_type x) → NoBound (meant x)
+pub no_bound : (x : TaskAnswer) → ((R n : ℕ) (by : Named) → x ≡ Bound R n by → ⊥) → NoBound (meant x)
 unfolding meant
-no_bound (Bound R n by) k = ⊎_elim (λ e. omega arith) (⊎_elim (λ e. omega arith) (λ e. omega arith)) k
+no_bound (Bound R n by) k = absurd (k R n by refl)
 no_bound Overload k = λ R n by e. let z : ◌≡◌ {A = ℕ} 0 1 = cc in omega arith
 no_bound (Beyond m) k = λ R n by e. let z : ◌≡◌ {A = ℕ} 0 1 = cc in omega arith
 no_bound (Spent m) k = λ R n by e. let z : ◌≡◌ {A = ℕ} 0 1 = cc in omega arith

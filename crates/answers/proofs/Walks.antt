@@ -2,7 +2,7 @@
 -- is left gives what the whole gives'.
 use mathlib.Core.Path.{◌≡◌, refl, sym, ap, ap₂, ◌∙◌, subst, subst₂}
 use mathlib.Core.Bool.{true, false}
-use mathlib.Core.Logic.{ite, ⊎_elim}
+use mathlib.Core.Logic.{ite}
 use mathlib.Core.List.{List, [], ◌∷◌, ◌++◌, map, filter}
 use Prim.Native.Nat.{ℕ, zero, suc, ◌+◌, ◌-◌, ◌≤◌, ◌<◌}
 use native.Mathlib.Decide.{dec_lt, ℕ_discrete}
@@ -24,9 +24,6 @@ use Rattle.answers.specs.declared.walk.Best.{Best}
 use Rattle.answers.specs.declared.walk.Walk.{Walk}
 use Rattle.answers.specs.declared.walk.Walked.{Walked}
 use Rattle.answers.specs.declared.walk.Walked.TheVariants.{Through, Past, Broke}
-use denote.Enum.Declared.{tag_of}
-use types.Run.{OneOf}
-use Rattle.answers.specs.contracts.walk.Walked.{the_type}
 use Rattle.answers.specs.Lent.{tested}
 use Rattle.answers.specs.Turn.{stopped, source_meant, best_meant, best_said, walked, turns_from, turns_by, mode_turns}
 use Rattle.answers.proofs.Chain as C
@@ -94,8 +91,8 @@ Stays (Past used) = Unit {0}
 Stays Broke = Unit {0}
 
 -- as the match on it says
-pub stays : (w : Walked) → OneOf (1 ∷ 2 ∷ []) (tag_of the_type w) → Stays w
-stays (Through x) k = ⊎_elim (λ e. omega arith) (λ e. omega arith) k
+pub stays : (w : Walked) → ((x : Walk) → w ≡ Through x → ⊥) → Stays w
+stays (Through x) k = absurd (k x refl)
 stays (Past used) k = tt
 stays Broke k = tt
 

@@ -18,7 +18,7 @@ pub account_from-requires : goal.account_from-requires
 account_from-requires c =
     let x = c in
     let f = x in
-    read-lent f.args.image.now f.read_in_front.new.1.0 (accepted-after-account_from-arg-1 x) f.read_in_front.ensures.cells_after
+    let h = read-lent f.args.image.now f.read_in_front.new.cells (accepted-after-account_from-arg-1 x) f.read_in_front.ensures.cells_after in record { row_of_table = h.0; work_len = h.1 }
 
 -- the answer of reading, by the way that the match goes
 refused-in-refused :
@@ -39,9 +39,9 @@ returns-in-Accepted c =
     let f = x in
     let a = f.args in
     let before = a.cells.now in
-    let told : Account × List ℕ = (c.account_from.result, c.account_from.new.cells.1.1.0) in
+    let told : Account × List ℕ = (c.account_from.result, c.account_from.new.cells) in
     OfImage.accepted (accepted-after-account_from x)
     (subst₂ (λ (tab : Table) (k : ℕ). OfTask (refused_with before) (AccountFor a.budget before) k tab told)
-    (read_table a.image.now f.read_in_front.new.1.0 (accepted-after-account_from x) f.read_in_front.ensures.cells_after)
+    (read_table a.image.now f.read_in_front.new.cells (accepted-after-account_from x) f.read_in_front.ensures.cells_after)
     n.index.ensures
     c.account_from.ensures)

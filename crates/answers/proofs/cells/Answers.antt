@@ -14,7 +14,7 @@ pub fill-requires : goal.fill-requires
 fill-requires c =
     let x = c in
     let f = x in
-    read-lent f.args.image.now f.read_in_front.new.1.0 (accepted-after-fill-arg-1 x) f.read_in_front.ensures.cells_after
+    let h = read-lent f.args.image.now f.read_in_front.new.cells (accepted-after-fill-arg-1 x) f.read_in_front.ensures.cells_after in record { row_of_table = h.0; work_len = h.1 }
 
 -- the answer of reading, by the way that the match goes
 refused-in-refused :
@@ -35,6 +35,6 @@ returns-in-Accepted c =
     let f = x in
     let a = f.args in
     Fills.accepted (accepted-after-slice_known-in-accepted-1 x)
-    (subst (λ (tab : Table). FillsFrom tab a.budget a.cells.now y.fill.new.cells.1.0 y.fill.result)
-    (read_table a.image.now f.read_in_front.new.1.0 (accepted-after-slice_known-in-accepted-1 x) f.read_in_front.ensures.cells_after)
+    (subst (λ (tab : Table). FillsFrom tab a.budget a.cells.now y.fill.new.cells y.fill.result)
+    (read_table a.image.now f.read_in_front.new.cells (accepted-after-slice_known-in-accepted-1 x) f.read_in_front.ensures.cells_after)
     y.fill.ensures)

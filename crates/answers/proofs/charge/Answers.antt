@@ -18,7 +18,7 @@ pub charge_from-requires : goal.charge_from-requires
 charge_from-requires c =
     let x = c in
     let f = x in
-    read-lent f.args.image.now f.read_in_front.new.1.0 (accepted-after-index-in-accepted x) f.read_in_front.ensures.cells_after
+    let h = read-lent f.args.image.now f.read_in_front.new.cells (accepted-after-index-in-accepted x) f.read_in_front.ensures.cells_after in record { row_of_table = h.0; work_len = h.1 }
 
 -- the answer of reading, by the way that the match goes
 refused-in-refused :
@@ -38,7 +38,7 @@ returns-in-Accepted c =
     let x = n in
     let f = x in
     let a = f.args in
-    let work = f.read_in_front.new.1.0 in
+    let work = f.read_in_front.new.cells in
     let told : Table → ℕ → ℕ → Type 0 = λ tab k i. OfTask part.Refused (ChargedBy (later_of a.whole) i a.t) k tab c.charge_from.result in
     OfImage.accepted (accepted-after-charge_from x)
     (subst₂ (λ (tab : Table) (k : ℕ). told tab k a.transaction)

@@ -16,7 +16,7 @@ pub parts_from-requires : goal.parts_from-requires
 parts_from-requires c =
     let x = c in
     let f = x in
-    read-lent f.args.image.now f.read_in_front.new.1.0 (accepted-after-index x) f.read_in_front.ensures.cells_after
+    let h = read-lent f.args.image.now f.read_in_front.new.cells (accepted-after-index x) f.read_in_front.ensures.cells_after in record { row_of_table = h.0; work_len = h.1 }
 
 -- the answer of reading, by the way that the match goes
 refused-in-refused :
@@ -37,6 +37,6 @@ returns-in-Accepted c =
     let a = f.args in
     OfImage.accepted (accepted-after-parts_from x)
     (subst₂ (λ (tab : Table) (k : ℕ). OfTask made.Refused (MadeFor a.budget) k tab c.parts_from.result)
-    (read_table a.image.now f.read_in_front.new.1.0 (accepted-after-parts_from x) f.read_in_front.ensures.cells_after)
+    (read_table a.image.now f.read_in_front.new.cells (accepted-after-parts_from x) f.read_in_front.ensures.cells_after)
     c.index.ensures
     c.parts_from.ensures)

@@ -27,7 +27,7 @@ pub response_of-requires : goal.response_of-requires
 response_of-requires c =
     let x = c in
     let f = x in
-    read-lent f.args.image.now f.read_in_front.new.1.0 (accepted-after-index x) f.read_in_front.ensures.cells_after
+    let h = read-lent f.args.image.now f.read_in_front.new.cells (accepted-after-index x) f.read_in_front.ensures.cells_after in record { row_of_table = h.0; work_len = h.1 }
 
 -- the answer of reading, by the way that the match goes
 refused-after-pair :
@@ -48,6 +48,6 @@ returns-in-Accepted c =
     let a = f.args in
     Responds.accepted (accepted-after-response_of x)
     (subst₂ (λ (tab : Table) (k : ℕ). RespondsFrom tab k a.budget c.response_of.result)
-    (read_table a.image.now f.read_in_front.new.1.0 (accepted-after-response_of x) f.read_in_front.ensures.cells_after)
+    (read_table a.image.now f.read_in_front.new.cells (accepted-after-response_of x) f.read_in_front.ensures.cells_after)
     c.index.ensures
     c.response_of.ensures)

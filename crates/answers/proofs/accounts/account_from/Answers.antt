@@ -22,7 +22,7 @@ returns-then-task-in_all c =
     let a = p.args in
     let s = q.subject-s.result in
     let before = a.cells.now in
-    let told : Account × List ℕ = (c.subject_account.result, c.subject_account.new.1.1.1.0) in
+    let told : Account × List ℕ = (c.subject_account.result, c.subject_account.new.cells) in
     let named = q.subject-s.ensures.subject_at in let lent = q.subject-s.ensures.lent_2 in let table = q.subject-s.ensures.work_unchanged in let subject = q.subject-s.ensures.subject in
     subst (λ (tab : Table). OfTask (refused_with before) (AccountFor a.budget before) a.task tab told) p.prepare.ensures.work_unchanged
     (OfTask.known named.chosen.is_task named.numbered

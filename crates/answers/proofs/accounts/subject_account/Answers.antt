@@ -92,7 +92,7 @@ returns-in-Bounded c =
     let s = e in
     let a = s.args in
     let lent = s.requires.lent in let subject = s.requires.subject in
-    let (answer, (by, (parts, end))) = g.answer-in-Bounded-1.given.0 in
+    let by = g.in-Bounded.by in let parts = g.in-Bounded.parts in
     account-bounded lent.table.kept subject.chosen.is_task (due-after-cells-in-bounded e) c.cells-in-Bounded.ensures (shown-after-cells-in-bounded e g.in-Bounded.is)
     (p.put_shares.ensures
     ∙ ap (λ (cells : List ℕ). laid shares_cell (tasks (tab-after-cells-in-bounded s) a.s.u) (λ j. share_cells (share_of (tab-after-cells-in-bounded s) a.s.u a.s.a (record { mode = by.mode; candidate = by.candidate }) parts.completion j)) cells)

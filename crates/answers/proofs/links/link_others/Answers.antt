@@ -181,9 +181,9 @@ loop-i-preserved c =
     let now : NextOther tab s.u s.a i c.if-not-idle.next =
     elim c.if-not-idle.branch [
       | then-not-idle w ↦ rw w.next-is
-          (other-self (omega (arith, y.transactions-i.ensures, ap transactions_in (ended-table-after-way_told-in-loop-i-1 y))) (c.is_idle-idle.ensures.not_i (not-true _ w.if-not-idle.true)))
+          (other-self (omega (arith, y.transactions-i.ensures, ap transactions_in (ended-table-after-way_told-in-loop-i-1 y))) (c.is_idle-idle.ensures.not_i w.if-not-idle.true))
       | else-not-idle w ↦ rw w.next-is
-          (other-idle (subst (λ (t : Table). Idle t s.u s.a i) e (c.is_idle-idle.ensures.idle (not-false _ w.if-not-idle.false)))
+          (other-idle (subst (λ (t : Table). Idle t s.u s.a i) e (c.is_idle-idle.ensures.idle w.if-not-idle.false))
           (subst (λ (n : ℕ). NextOther tab s.u s.a n l.loop-i.next) back next))
     ] in
     let before = subst (λ (n : ℕ). OthersFrom tab s.u s.a n l.loop-i.work) back done in (

@@ -7,7 +7,7 @@ use Rattle.row.specs.Row.{table_of}
 use Rattle.analysis.specs.Rival.{Runs}
 use Rattle.analysis.proofs.Choice.{when-yes, when-no}
 use Rattle.answers.proofs.overload.counted_load.Goals as goal
-use Rattle.answers.proofs.overload.counted_load.Goals.{then-i-s, else-i-s}
+use Rattle.answers.proofs.overload.counted_load.Goals.{then-i-s+else-time-eq0, else-i-s}
 
 pub time-requires : goal.time-requires
 time-requires c = record { row_of_table = c.requires.lent.table; task = c.requires.subject.chosen.is_task; m_bound = rw c.if-i-s.true at c.requires.m_bound }
@@ -20,7 +20,7 @@ counts-after-load :
     → c.args.i ≡ c.args.s.u
     → Runs (table_of c.args.work.now) c.args.s.u c.args.m
     c.args.s.a
-counts-after-load c = elim c.if-i-s.branch [ then-i-s w ↦ λ e. omega (arith, w.if-time-eq0.false, w.time.ensures) | else-i-s w ↦ λ e. absurd (w.if-i-s.false e) ]
+counts-after-load c = elim c.if-i-s.branch [ then-i-s+else-time-eq0 w ↦ λ e. omega (arith, w.if-time-eq0.false, w.time.ensures) | else-i-s w ↦ λ e. absurd (w.if-i-s.false e) ]
 
 pub returns : goal.returns
 returns c = c.load.ensures ∙ sym (when-yes _ _ (counts-after-load c))

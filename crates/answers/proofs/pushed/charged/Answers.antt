@@ -3,7 +3,7 @@
 use mathlib.Core.Path.{◌≡◌, refl, sym, ap, ◌∙◌, subst}
 use native.Mathlib.Omega.{arith}
 use Rattle.row.specs.Row.{table_of}
-use Rattle.table.specs.Table.{Table}
+use Rattle.table.specs.Table.{IsTask, Table}
 use Rattle.table.proofs.Ranges.{modes-few}
 use Rattle.table.proofs.Number.{number_lt}
 use Rattle.analysis.specs.Who as who
@@ -41,14 +41,6 @@ other-in_default c = record { there = omega (arith, c.if-i-transactions.true, c.
 -- the greatest charge of the transaction, and who gives it
 abbrev Greatest-in_default : goal.In_default → who.Most → Type 0
 Greatest-in_default s = MostCharged (later_of s.args.whole) (tab-in_default s) s.args.s.u s.args.s.a s.args.i s.args.t
-
-found-in_default :
-    (c : goal.In_default)
-    → let (ticks, (by, end)) = c.most-1.given.0 in
-    Greatest-in_default c
-    (charged ticks.0 (record { mode = by.mode; candidate = by.candidate }))
-unfolding most_said
-found-in_default c = most-in_default c _ c.in-Charged.is
 
 -- what was found-in_default is who charges most-in_default
 most-in_default :
@@ -91,7 +83,7 @@ most-after-struct_known-then-i-transactions-1 c x e =
 
 found-after-struct_known-then-i-transactions-1 :
     (c : goal.After-struct_known-then-i-transactions-1)
-    → let (ticks, (by, end)) = c.most-1.given.0 in
+    → let ticks = c.in-Charged.ticks in let by = c.in-Charged.by in
     Greatest-after-struct_known-then-i-transactions-1 c
     (charged ticks.0 (record { mode = by.mode; candidate = by.candidate }))
 unfolding most_said
@@ -131,7 +123,7 @@ most-after-number-arg-1 c x e =
 
 found-after-number-arg-1 :
     (c : goal.After-number-arg-1)
-    → let (ticks, (by, end)) = c.most-1.given.0 in
+    → let ticks = c.in-Charged.ticks in let by = c.in-Charged.by in
     Greatest-after-number-arg-1 c
     (charged ticks.0 (record { mode = by.mode; candidate = by.candidate }))
 unfolding most_said
@@ -144,12 +136,6 @@ number-requires c =
 
 abbrev tab-after-number : goal.After-number → Table
 tab-after-number s = table_of s.args.work.now
-
-pub overflow_cast-result-then-i-transactions : goal.overflow_cast-result-then-i-transactions
-overflow_cast-result-then-i-transactions c =
-    let s = c in
-    let (is_row, is_task) = number-requires c s.lifetimes in
-    omega (arith, c.number.ensures, number_lt (tab-after-number s) is_task, is_row.kept.few_tasks)
 
 other-after-number : (c : goal.After-number) → let s = c in Other (tab-after-number s) s.args.s.u s.args.i
 other-after-number c = record { there = omega (arith, c.if-i-transactions.true, c.transactions.ensures); other = c.if-i-s.false }
@@ -173,17 +159,24 @@ most-after-number c x e =
 
 found-after-number :
     (c : goal.After-number)
-    → let (ticks, (by, end)) = c.most-1.given.0 in
+    → let ticks = c.in-Charged.ticks in let by = c.in-Charged.by in
     Greatest-after-number c
     (charged ticks.0 (record { mode = by.mode; candidate = by.candidate }))
 unfolding most_said
 found-after-number c = most-after-number c _ c.in-Charged.is
 
+pub overflow_cast-result-then-i-transactions : goal.overflow_cast-result-then-i-transactions
+overflow_cast-result-then-i-transactions c =
+    let is_row = c.requires.lent.table in
+    let is_task : IsTask (tab-after-number c) c.args.i c.in-Charged.by.candidate =
+    record { owner = (other-after-number c).there; place = (most-gives (found-after-number c)).place } in
+    omega (arith, c.number.ensures, number_lt (tab-after-number c) is_task, is_row.kept.few_tasks)
+
 pub returns-then-i-transactions : goal.returns-then-i-transactions
 unfolding part_said
 returns-then-i-transactions c =
     let d = c in
-    let (ticks, (by, end)) = d.most-1.given.0 in
+    let ticks = d.in-Charged.ticks in let by = d.in-Charged.by in
     ChargedBy.other (other-after-number d) (found-after-number d)
     (ap (λ (n : ℕ). part.Charged (record { ticks = ticks.0; mode = by.mode; candidate = n })) (sym c.number.ensures))
 

@@ -17,7 +17,7 @@ use Rattle.answers.proofs.pushed.explain.Goals as goal
 pub returns-in_default : goal.returns-in_default
 returns-in_default c =
     let d = c in
-    Explains.unbounded d.answer-answer.ensures (no_bound d.answer-answer.result c.in-Bound.keys2)
+    Explains.unbounded d.answer-answer.ensures (no_bound d.answer-answer.result c.in_default.not-Bound)
 
 abbrev tab-in-bound : goal.In-Bound → Table
 tab-in-bound s = table_of s.args.work.now
@@ -29,8 +29,8 @@ wanted-in-bound s = answer imposed (tab-in-bound s) s.args.s.u s.args.s.a s.args
 -- the answer is a bound
 told-in-bound :
     (c : goal.In-Bound)
-    → let g = c.answer-1.given.0 in
-    bound g.0 g.1.0 (named_meant g.1.1.0) ≡ wanted-in-bound c
+    →
+    bound c.in-Bound.bound c.in-Bound.field-1 (named_meant c.in-Bound.by) ≡ wanted-in-bound c
 unfolding meant
 told-in-bound c = ap meant (sym c.in-Bound.is) ∙ c.answer-answer.ensures
 
@@ -50,21 +50,20 @@ wanted-after-source-source s = answer imposed (tab-after-source-source s) s.args
 -- the answer is a bound
 told-after-source-source :
     (c : goal.After-source-source)
-    → let g = c.answer-1.given.0 in
-    bound g.0 g.1.0 (named_meant g.1.1.0) ≡ wanted-after-source-source c
+    →
+    bound c.in-Bound.bound c.in-Bound.field-1 (named_meant c.in-Bound.by) ≡ wanted-after-source-source c
 unfolding meant
 told-after-source-source c = ap meant (sym c.in-Bound.is) ∙ c.answer-answer.ensures
 
 -- that the source gives
 gave :
     (c : goal.After-source-source)
-    → let g = c.answer-1.given.0 in
+    →
     let s = c in
-    bound g.0 g.1.0 (named (tab-after-source-source s) s.args.s.u (source_meant c.source-source.result)) ≡ wanted-after-source-source s
+    bound c.in-Bound.bound c.in-Bound.field-1 (named (tab-after-source-source s) s.args.s.u (source_meant c.source-source.result)) ≡ wanted-after-source-source s
 gave c =
     let d = c in
-    let g = d.answer-1.given.0 in
-    ap (bound g.0 g.1.0) c.source-source.ensures ∙ told-after-source-source d
+    ap (bound c.in-Bound.bound c.in-Bound.field-1) c.source-source.ensures ∙ told-after-source-source d
 
 pub parts_of-requires : goal.parts_of-requires
 parts_of-requires c =
@@ -84,21 +83,20 @@ wanted-after-parts_of s = answer imposed (tab-after-parts_of s) s.args.s.u s.arg
 -- the answer is a bound
 told-after-parts_of :
     (c : goal.After-parts_of)
-    → let g = c.answer-1.given.0 in
-    bound g.0 g.1.0 (named_meant g.1.1.0) ≡ wanted-after-parts_of c
+    →
+    bound c.in-Bound.bound c.in-Bound.field-1 (named_meant c.in-Bound.by) ≡ wanted-after-parts_of c
 unfolding meant
 told-after-parts_of c = ap meant (sym c.in-Bound.is) ∙ c.answer-answer.ensures
 
 -- that the source gives
 gave-after-parts_of :
     (c : goal.After-parts_of)
-    → let g = c.answer-1.given.0 in
+    →
     let s = c in
-    bound g.0 g.1.0 (named (tab-after-parts_of s) s.args.s.u (source_meant c.source-source.result)) ≡ wanted-after-parts_of s
+    bound c.in-Bound.bound c.in-Bound.field-1 (named (tab-after-parts_of s) s.args.s.u (source_meant c.source-source.result)) ≡ wanted-after-parts_of s
 gave-after-parts_of c =
     let d = c in
-    let g = d.answer-1.given.0 in
-    ap (bound g.0 g.1.0) c.source-source.ensures ∙ told-after-parts_of d
+    ap (bound c.in-Bound.bound c.in-Bound.field-1) c.source-source.ensures ∙ told-after-parts_of d
 
 pub returns : goal.returns
 unfolding meant

@@ -17,7 +17,7 @@ use Rattle.analysis.specs.Bound.{arrival}
 use Rattle.analysis.specs.Needed.{job}
 use Rattle.analysis.specs.Parts.{Parts, parts_of, MadeOf}
 use Rattle.analysis.proofs.Parts.{made_of}
-use Rattle.answers.specs.Turn.{source_meant}
+use Rattle.answers.specs.Turn.{source_meant, Near}
 use Rattle.answers.proofs.Signed.{back, arrival-small}
 use Rattle.answers.proofs.Instants.{instant-first, instant-period, instant-phase, instant-offset, instant-blocking, instant-job, instant-arrival}
 use Rattle.answers.proofs.Answered.{source-few, source-near}
@@ -61,10 +61,16 @@ arrival-arrives-requires c =
     let phase = instant-phase kept is_task x.instant_of-x.ensures in record { period_bound = period; phase_bound = omega (arith, period, phase); near = rw (number c) (source-near kept is_task by) }
 
 early : (c : goal.After-arrival-arrives) → mag c.arrival-arrives.result.0 < 2 ^ 52
+unfolding source_meant
 early c =
     let x = c in
     let i = x.instant_of-x.result in
-    let (period, (phase, near)) = arrival-arrives-requires c tt in
+    let lent = x.requires.lent in let subject = x.requires.subject in let by = x.requires.bound_by in
+    let kept = lent.table.kept in
+    let is_task = subject.chosen.is_task in
+    let period = instant-period kept is_task x.instant_of-x.ensures in
+    let phase : i.phase.0 < 2 ^ 25 = omega (arith, period, instant-phase kept is_task x.instant_of-x.ensures) in
+    let near : Near c.job.result.0 = rw (c.job.ensures ∙ instant-job kept is_task x.instant_of-x.ensures x.args.by.job.0) (source-near kept is_task by) in
     rw c.arrival-arrives.ensures (arrival-small i.period.0 i.phase.0 c.job.result.0 period phase near)
 
 abbrev tab-after-arrival-arrives : goal.After-arrival-arrives → Table
@@ -302,10 +308,16 @@ abbrev wanted-after-struct_told-1 : goal.After-struct_told-1 → Parts
 wanted-after-struct_told-1 s = parts_of (tab-after-struct_told-1 s) s.args.s.u s.args.s.a s.args.bound (source_meant s.args.by)
 
 early-after-struct_told-1 : (c : goal.After-struct_told-1) → mag c.arrival-arrives.result.0 < 2 ^ 52
+unfolding source_meant
 early-after-struct_told-1 c =
     let x = c in
     let i = x.instant_of-x.result in
-    let (period, (phase, near)) = arrival-arrives-requires c tt in
+    let lent = x.requires.lent in let subject = x.requires.subject in let by = x.requires.bound_by in
+    let kept = lent.table.kept in
+    let is_task = subject.chosen.is_task in
+    let period = instant-period kept is_task x.instant_of-x.ensures in
+    let phase : i.phase.0 < 2 ^ 25 = omega (arith, period, instant-phase kept is_task x.instant_of-x.ensures) in
+    let near : Near c.job.result.0 = rw (c.job.ensures ∙ instant-job kept is_task x.instant_of-x.ensures x.args.by.job.0) (source-near kept is_task by) in
     rw c.arrival-arrives.ensures (arrival-small i.period.0 i.phase.0 c.job.result.0 period phase near)
 
 -- the job, by its number-after-struct_told-1

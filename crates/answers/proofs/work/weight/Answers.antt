@@ -13,7 +13,7 @@ use Rattle.row.specs.Row.{task_cell, priority_cell, table_of}
 use Rattle.row.proofs.Held.{held-priority, held-time}
 use Rattle.charge.proofs.Weights.{weight-none, weight-time}
 use Rattle.answers.proofs.work.weight.Goals as goal
-use Rattle.answers.proofs.work.weight.Goals.{then-i-s, else-i-s}
+use Rattle.answers.proofs.work.weight.Goals.{then-i-s+else-j-s, else-i-s}
 
 -- the places read lie within the row
 few : (s : goal.Start) → (s.args.k < tasks_in_all) × (s.args.m < modes_most)
@@ -101,4 +101,4 @@ returns c =
     ∙ sym
     (weight-time (table_of x.work.now) x.s.u x.s.a x.i x.m x.j
     (omega (arith, y.if-work-cell.false, urgency-after-result-1 s, chosen.priority))
-    (λ b. elim c.if-i-s.branch [ then-i-s w ↦ w.if-j-s.false b.1 | else-i-s w ↦ w.if-i-s.false b.0 ]))
+    (λ b. elim c.if-i-s.branch [ then-i-s+else-j-s w ↦ w.if-j-s.false b.1 | else-i-s w ↦ w.if-i-s.false b.0 ]))
