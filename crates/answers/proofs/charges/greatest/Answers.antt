@@ -109,7 +109,7 @@ few-after-way_told-in-loop-z-1 c =
 pub bounds-work-z : goal.bounds-work-z
 bounds-work-z c = omega (arith, few-after-way_told-in-loop-z-1 c)
 
--- the setting that the loop is at-after-index-z-in-loop-z
+-- the setting that the loop is at
 at-after-index-z-in-loop-z : (c : goal.After-index-z-in-loop-z) →
     let d = c in
     let z = c.loop-z.z in

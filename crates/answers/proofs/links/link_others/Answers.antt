@@ -31,7 +31,7 @@ overflow_add-work c = omega (arith, few c)
 pub offset_bounds-work-i : goal.offset_bounds-work-i
 offset_bounds-work-i c = omega (arith, few c)
 
--- the transactions are few-after-way_told-1
+-- the transactions are few
 few-after-way_told-1 : (y : goal.After-way_told-1) → y.transactions-i.result ≤ transactions_most
 few-after-way_told-1 y = omega (arith, y.transactions-i.ensures, y.requires.lent.table.kept.few_transactions)
 
@@ -115,14 +115,14 @@ is_idle-idle-requires c =
     let l = c in
     let (lent, (weighs, e)) = present-in-loop-i l in record { lent = lent; weighs = weighs; i_bound = omega (arith, l.loop-i.invariant.0, l.transactions-i.ensures, ap transactions_in (e ∙ ended-table-in-loop-i l)) }
 
--- the transactions are few-then-not-idle
+-- the transactions are few
 few-then-not-idle : (y : goal.Then-not-idle) → y.transactions-i.result ≤ transactions_most
 few-then-not-idle y = omega (arith, y.transactions-i.ensures, y.requires.lent.table.kept.few_transactions)
 
 pub overflow_cast-next-then-not-idle : goal.overflow_cast-next-then-not-idle
 overflow_cast-next-then-not-idle c = let l = c in omega (arith, few-then-not-idle l)
 
--- the transactions are few-joined-not-idle
+-- the transactions are few
 few-joined-not-idle : (y : goal.Joined-not-idle) → y.transactions-i.result ≤ transactions_most
 few-joined-not-idle y = omega (arith, y.transactions-i.ensures, y.requires.lent.table.kept.few_transactions)
 
@@ -132,7 +132,7 @@ overflow_add-work-in-loop-i c = let l = c in omega (arith, few-joined-not-idle l
 pub offset_bounds-work-i-in-loop-i : goal.offset_bounds-work-i-in-loop-i
 offset_bounds-work-i-in-loop-i c = let l = c in omega (arith, few-joined-not-idle l)
 
--- the transactions are few-after-way_told-in-loop-i-1
+-- the transactions are few
 few-after-way_told-in-loop-i-1 : (y : goal.After-way_told-in-loop-i-1) → y.transactions-i.result ≤ transactions_most
 few-after-way_told-in-loop-i-1 y = omega (arith, y.transactions-i.ensures, y.requires.lent.table.kept.few_transactions)
 

@@ -42,7 +42,7 @@ other-in_default c = record { there = omega (arith, c.if-i-transactions.true, c.
 abbrev Greatest-in_default : goal.In_default → who.Most → Type 0
 Greatest-in_default s = MostCharged (later_of s.args.whole) (tab-in_default s) s.args.s.u s.args.s.a s.args.i s.args.t
 
--- what was found-in_default is who charges most-in_default
+-- what was found is who charges most
 most-in_default :
     (c : goal.In_default) (x : Most)
     → c.most_charged-most.result ≡ x
@@ -68,7 +68,7 @@ tab-after-struct_known-then-i-transactions-1 s = table_of s.args.work.now
 abbrev Greatest-after-struct_known-then-i-transactions-1 : goal.After-struct_known-then-i-transactions-1 → who.Most → Type 0
 Greatest-after-struct_known-then-i-transactions-1 s = MostCharged (later_of s.args.whole) (tab-after-struct_known-then-i-transactions-1 s) s.args.s.u s.args.s.a s.args.i s.args.t
 
--- what was found-after-struct_known-then-i-transactions-1 is who charges most-after-struct_known-then-i-transactions-1
+-- what was found is who charges most
 most-after-struct_known-then-i-transactions-1 :
     (c : goal.After-struct_known-then-i-transactions-1) (x : Most)
     → c.most_charged-most.result ≡ x
@@ -108,7 +108,7 @@ other-after-number-arg-1 c = record { there = omega (arith, c.if-i-transactions.
 abbrev Greatest-after-number-arg-1 : goal.After-number-arg-1 → who.Most → Type 0
 Greatest-after-number-arg-1 s = MostCharged (later_of s.args.whole) (tab-after-number-arg-1 s) s.args.s.u s.args.s.a s.args.i s.args.t
 
--- what was found-after-number-arg-1 is who charges most-after-number-arg-1
+-- what was found is who charges most
 most-after-number-arg-1 :
     (c : goal.After-number-arg-1) (x : Most)
     → c.most_charged-most.result ≡ x
@@ -144,7 +144,7 @@ other-after-number c = record { there = omega (arith, c.if-i-transactions.true, 
 abbrev Greatest-after-number : goal.After-number → who.Most → Type 0
 Greatest-after-number s = MostCharged (later_of s.args.whole) (tab-after-number s) s.args.s.u s.args.s.a s.args.i s.args.t
 
--- what was found-after-number is who charges most-after-number
+-- what was found is who charges most
 most-after-number :
     (c : goal.After-number) (x : Most)
     → c.most_charged-most.result ≡ x

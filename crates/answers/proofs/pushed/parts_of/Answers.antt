@@ -69,7 +69,7 @@ early c =
     let kept = lent.table.kept in
     let is_task = subject.chosen.is_task in
     let period = instant-period kept is_task x.instant_of-x.ensures in
-    let phase : i.phase.0 < 2 ^ 25 = omega (arith, period, instant-phase kept is_task x.instant_of-x.ensures) in
+    let phase : i.phase.0 < 2 ^ 24 = omega (arith, period, instant-phase kept is_task x.instant_of-x.ensures) in
     let near : Near c.job.result.0 = rw (c.job.ensures ∙ instant-job kept is_task x.instant_of-x.ensures x.args.by.job.0) (source-near kept is_task by) in
     rw c.arrival-arrives.ensures (arrival-small i.period.0 i.phase.0 c.job.result.0 period phase near)
 
@@ -80,7 +80,7 @@ tab-after-arrival-arrives s = table_of s.args.work.now
 abbrev wanted-after-arrival-arrives : goal.After-arrival-arrives → Parts
 wanted-after-arrival-arrives s = parts_of (tab-after-arrival-arrives s) s.args.s.u s.args.s.a s.args.bound (source_meant s.args.by)
 
--- the job, by its number-after-arrival-arrives
+-- the job, by its number
 abbrev numbered-after-arrival-arrives : goal.After-arrival-arrives → ℤ
 numbered-after-arrival-arrives s = job (tab-after-arrival-arrives s) s.args.s.u s.args.s.a s.args.by.candidate s.args.by.job.0
 
@@ -114,7 +114,7 @@ tab-after-completion-w s = table_of s.args.work.now
 abbrev wanted-after-completion-w : goal.After-completion-w → Parts
 wanted-after-completion-w s = parts_of (tab-after-completion-w s) s.args.s.u s.args.s.a s.args.bound (source_meant s.args.by)
 
--- the job, by its number-after-completion-w
+-- the job, by its number
 abbrev numbered-after-completion-w : goal.After-completion-w → ℤ
 numbered-after-completion-w s = job (tab-after-completion-w s) s.args.s.u s.args.s.a s.args.by.candidate s.args.by.job.0
 
@@ -170,7 +170,7 @@ tab-after-struct_known-1 s = table_of s.args.work.now
 abbrev wanted-after-struct_known-1 : goal.After-struct_known-1 → Parts
 wanted-after-struct_known-1 s = parts_of (tab-after-struct_known-1 s) s.args.s.u s.args.s.a s.args.bound (source_meant s.args.by)
 
--- the job, by its number-after-struct_known-1
+-- the job, by its number
 abbrev numbered-after-struct_known-1 : goal.After-struct_known-1 → ℤ
 numbered-after-struct_known-1 s = job (tab-after-struct_known-1 s) s.args.s.u s.args.s.a s.args.by.candidate s.args.by.job.0
 
@@ -259,7 +259,7 @@ tab-after-struct_known-6-1 s = table_of s.args.work.now
 abbrev wanted-after-struct_known-6-1 : goal.After-struct_known-6-1 → Parts
 wanted-after-struct_known-6-1 s = parts_of (tab-after-struct_known-6-1 s) s.args.s.u s.args.s.a s.args.bound (source_meant s.args.by)
 
--- the job, by its number-after-struct_known-6-1
+-- the job, by its number
 abbrev numbered-after-struct_known-6-1 : goal.After-struct_known-6-1 → ℤ
 numbered-after-struct_known-6-1 s = job (tab-after-struct_known-6-1 s) s.args.s.u s.args.s.a s.args.by.candidate s.args.by.job.0
 
@@ -316,11 +316,11 @@ early-after-struct_told-1 c =
     let kept = lent.table.kept in
     let is_task = subject.chosen.is_task in
     let period = instant-period kept is_task x.instant_of-x.ensures in
-    let phase : i.phase.0 < 2 ^ 25 = omega (arith, period, instant-phase kept is_task x.instant_of-x.ensures) in
+    let phase : i.phase.0 < 2 ^ 24 = omega (arith, period, instant-phase kept is_task x.instant_of-x.ensures) in
     let near : Near c.job.result.0 = rw (c.job.ensures ∙ instant-job kept is_task x.instant_of-x.ensures x.args.by.job.0) (source-near kept is_task by) in
     rw c.arrival-arrives.ensures (arrival-small i.period.0 i.phase.0 c.job.result.0 period phase near)
 
--- the job, by its number-after-struct_told-1
+-- the job, by its number
 abbrev numbered-after-struct_told-1 : goal.After-struct_told-1 → ℤ
 numbered-after-struct_told-1 s = job (tab-after-struct_told-1 s) s.args.s.u s.args.s.a s.args.by.candidate s.args.by.job.0
 

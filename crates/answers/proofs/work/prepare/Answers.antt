@@ -17,7 +17,7 @@ loop-k-init c =
     let work = c.args.work.now in
     (omega arith, (phased-none (table_of work) work, same_refl row_cells work))
 
--- the row-after-put_phases-arg-1 in front holds the table still
+-- the row in front holds the table still
 row-after-put_phases-arg-1 : (c : goal.After-put_phases-arg-1) → RowOfTable c.loop-k.work × (table_of c.loop-k.work ≡ table_of c.args.work.now)
 row-after-put_phases-arg-1 c = same_row c.requires.row_of_table c.loop-k.invariant.1.1
 
@@ -42,7 +42,7 @@ overflow_add-k c =
 pub loop-k-smaller : goal.loop-k-smaller
 loop-k-smaller c = omega (arith, c.loop-k-test.true)
 
--- the row-after-put_phases in front holds the table still
+-- the row in front holds the table still
 row-after-put_phases : (c : goal.After-put_phases) → RowOfTable c.loop-k.work × (table_of c.loop-k.work ≡ table_of c.args.work.now)
 row-after-put_phases c = same_row c.requires.row_of_table c.loop-k.invariant.1.1
 

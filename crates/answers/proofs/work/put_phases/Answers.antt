@@ -23,7 +23,7 @@ loop-j-init c =
     let t = c.task-x.result in
     (omega arith, phases-none x.requires.row_of_table.kept t.u t.a x.args.work.now x.args.k x.requires.phased)
 
--- the row-in-loop-j in front holds the table still
+-- the row in front holds the table still
 row-in-loop-j : (c : goal.In-loop-j) → RowOfTable c.loop-j.work × (table_of c.loop-j.work ≡ table_of c.args.work.now)
 row-in-loop-j c = same_row c.requires.row_of_table c.loop-j.invariant.1.same
 
@@ -34,7 +34,7 @@ place c =
     subst (λ (tab : Table). IsTask tab t.result.u c.loop-j.j) (sym (row-in-loop-j c).1)
     (record { owner = t.ensures.chosen.is_task.owner; place = omega (arith, c.loop-j-test.true, y.tasks-count.ensures) })
 
--- candidate-in-loop-j and place are tasks of it
+-- candidate and place are tasks of it
 candidate-in-loop-j : (c : goal.In-loop-j) → let t = c.task-x.result in IsTask (table_of c.loop-j.work) t.u t.a
 candidate-in-loop-j c =
     let t = c.task-x in
@@ -43,7 +43,7 @@ candidate-in-loop-j c =
 pub phase_of-phase-requires : goal.phase_of-phase-requires
 phase_of-phase-requires c = record { row_of_table = (row-in-loop-j c).0; task = candidate-in-loop-j c; task_2 = place c }
 
--- the row-after-phase_of-phase in front holds the table still
+-- the row in front holds the table still
 row-after-phase_of-phase : (c : goal.After-phase_of-phase) → RowOfTable c.loop-j.work × (table_of c.loop-j.work ≡ table_of c.args.work.now)
 row-after-phase_of-phase c = same_row c.requires.row_of_table c.loop-j.invariant.1.same
 
@@ -54,7 +54,7 @@ place-after-phase_of-phase c =
     subst (λ (tab : Table). IsTask tab t.result.u c.loop-j.j) (sym (row-after-phase_of-phase c).1)
     (record { owner = t.ensures.chosen.is_task.owner; place = omega (arith, c.loop-j-test.true, y.tasks-count.ensures) })
 
--- candidate-after-phase_of-phase and place-after-phase_of-phase are tasks of it
+-- candidate and place are tasks of it
 candidate-after-phase_of-phase : (c : goal.After-phase_of-phase) → let t = c.task-x.result in IsTask (table_of c.loop-j.work) t.u t.a
 candidate-after-phase_of-phase c =
     let t = c.task-x in
@@ -67,7 +67,7 @@ held_of-held-requires c =
 few-after-held_of-held : (c : goal.After-held_of-held) → c.tasks-count.result ≤ tasks_most
 few-after-held_of-held c = omega (arith, c.tasks-count.ensures, tasks-few c.requires.row_of_table.kept c.task-x.ensures.chosen.is_task.owner)
 
--- the candidates are few-after-held_of-held, and so are the places of each
+-- the candidates are few, and so are the places of each
 small-after-held_of-held : (c : goal.After-held_of-held) → c.args.k < tasks_in_all
 small-after-held_of-held c = omega (arith, c.requires.k_bound, c.requires.row_of_table.kept.few_tasks)
 
@@ -86,7 +86,7 @@ offset_bounds-work-k c = omega (arith, small-after-held_of-held c, few-after-hel
 few-after-way_told-1 : (c : goal.After-way_told-1) → c.tasks-count.result ≤ tasks_most
 few-after-way_told-1 c = omega (arith, c.tasks-count.ensures, tasks-few c.requires.row_of_table.kept c.task-x.ensures.chosen.is_task.owner)
 
--- the candidates are few-after-way_told-1, and so are the places of each
+-- the candidates are few, and so are the places of each
 small-after-way_told-1 : (c : goal.After-way_told-1) → c.args.k < tasks_in_all
 small-after-way_told-1 c = omega (arith, c.requires.k_bound, c.requires.row_of_table.kept.few_tasks)
 
@@ -114,7 +114,7 @@ overflow_add-j c = omega (arith, few-after-way_told-1 c, c.loop-j-test.true)
 pub loop-j-smaller : goal.loop-j-smaller
 loop-j-smaller c = omega (arith, c.loop-j-test.true)
 
--- the row-after-way_told-1 in front holds the table still
+-- the row in front holds the table still
 row-after-way_told-1 : (c : goal.After-way_told-1) → RowOfTable c.loop-j.work × (table_of c.loop-j.work ≡ table_of c.args.work.now)
 row-after-way_told-1 c = same_row c.requires.row_of_table c.loop-j.invariant.1.same
 

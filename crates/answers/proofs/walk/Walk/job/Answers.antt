@@ -50,7 +50,7 @@ job_chain-requires c =
 abbrev tab-after-best-1 : goal.After-best-1 → Table
 tab-after-best-1 c = table_of c.args.work.now
 
--- the job's number-after-best-1
+-- the job's number
 number-after-best-1 : (c : goal.After-best-1) → let d = c in let a = d.args in c.job-p.result.0 ≡ job (tab-after-best-1 d) a.s.u a.s.a a.x.candidate a.n.0
 number-after-best-1 c =
     let lent = c.requires.lent in let subject = c.requires.subject in let turn = c.requires.instant in let lasts = c.requires.lasts in let l = c.requires.n_lt_jobs in let within = c.requires.used_le_budget in
@@ -88,7 +88,7 @@ response-requires c =
 abbrev tab-after-better : goal.After-better → Table
 tab-after-better c = table_of c.args.work.now
 
--- the job's number-after-better
+-- the job's number
 number-after-better : (c : goal.After-better) → let d = c in let a = d.args in c.job-p.result.0 ≡ job (tab-after-better d) a.s.u a.s.a a.x.candidate a.n.0
 number-after-better c =
     let lent = c.requires.lent in let subject = c.requires.subject in let turn = c.requires.instant in let lasts = c.requires.lasts in let l = c.requires.n_lt_jobs in let within = c.requires.used_le_budget in
@@ -114,7 +114,7 @@ met-after-better c =
     let turn : Turn = record { mode = a.x.mode; candidate = a.x.candidate } in
     λ i. record { response = answer-after-better c i; source = record { turn = turn; job = a.n.0 } }
 
--- one step-after-better of the walk, by how the chain stopped
+-- one step of the walk, by how the chain stopped
 step-after-better : (c : goal.After-better) → let d = c in let a = d.args in walked a.budget (walk_jobs imposed (tab-after-better d) a.s.u a.s.a a.x.mode a.x.candidate 1 a.n.0 (a.budget - a.self.used) (best_meant a.self.best)) ≡ after_stop (λ w used. Through (record { used = used; best = best_said (better (best_meant a.self.best) (answered (tab-after-better d) a.s.u a.s.a a.x.mode a.x.candidate a.n.0 w.0)) })) c.job_chain.result
 step-after-better c =
     let d = c in
@@ -133,13 +133,13 @@ returns-in-Came c =
 abbrev tab-in-over : goal.In-Over → Table
 tab-in-over c = table_of c.args.work.now
 
--- the job's number-in-over
+-- the job's number
 number-in-over : (c : goal.In-Over) → let d = c in let a = d.args in c.job-p.result.0 ≡ job (tab-in-over d) a.s.u a.s.a a.x.candidate a.n.0
 number-in-over c =
     let lent = c.requires.lent in let subject = c.requires.subject in let turn = c.requires.instant in let lasts = c.requires.lasts in let l = c.requires.n_lt_jobs in let within = c.requires.used_le_budget in
     c.job-p.ensures ∙ instant-job lent.table.kept subject.chosen.is_task turn c.args.n.0
 
--- one step-in-over of the walk, by how the chain stopped
+-- one step of the walk, by how the chain stopped
 step-in-over : (c : goal.In-Over) → let d = c in let a = d.args in walked a.budget (walk_jobs imposed (tab-in-over d) a.s.u a.s.a a.x.mode a.x.candidate 1 a.n.0 (a.budget - a.self.used) (best_meant a.self.best)) ≡ after_stop (λ w used. Through (record { used = used; best = best_said (better (best_meant a.self.best) (answered (tab-in-over d) a.s.u a.s.a a.x.mode a.x.candidate a.n.0 w.0)) })) c.job_chain.result
 step-in-over c =
     let d = c in
@@ -153,13 +153,13 @@ returns-in-Over c = rw (step-in-over c, c.in-Over.is) refl
 abbrev tab-in-short : goal.In-Short → Table
 tab-in-short c = table_of c.args.work.now
 
--- the job's number-in-short
+-- the job's number
 number-in-short : (c : goal.In-Short) → let d = c in let a = d.args in c.job-p.result.0 ≡ job (tab-in-short d) a.s.u a.s.a a.x.candidate a.n.0
 number-in-short c =
     let lent = c.requires.lent in let subject = c.requires.subject in let turn = c.requires.instant in let lasts = c.requires.lasts in let l = c.requires.n_lt_jobs in let within = c.requires.used_le_budget in
     c.job-p.ensures ∙ instant-job lent.table.kept subject.chosen.is_task turn c.args.n.0
 
--- one step-in-short of the walk, by how the chain stopped
+-- one step of the walk, by how the chain stopped
 step-in-short : (c : goal.In-Short) → let d = c in let a = d.args in walked a.budget (walk_jobs imposed (tab-in-short d) a.s.u a.s.a a.x.mode a.x.candidate 1 a.n.0 (a.budget - a.self.used) (best_meant a.self.best)) ≡ after_stop (λ w used. Through (record { used = used; best = best_said (better (best_meant a.self.best) (answered (tab-in-short d) a.s.u a.s.a a.x.mode a.x.candidate a.n.0 w.0)) })) c.job_chain.result
 step-in-short c =
     let d = c in
