@@ -16,7 +16,7 @@ use Rattle.table.specs.Number.{in_all}
 use Rattle.table.specs.Kept.{Kept}
 use Rattle.table.proofs.Sum.{sum-next}
 use Rattle.table.proofs.Number.{before-suc, before-grow}
-use Rattle.table.specs.Lists.{list_of, joined}
+use Rattle.table.specs.Lists.{joined}
 use Rattle.table.proofs.Lists.{length-list_of, length-joined, joined_same}
 use Rattle.format.specs.Places.{first_at, head_width, task_width}
 use Rattle.format.specs.Image.{task_bits, transaction_bits, table_bits}
@@ -28,7 +28,7 @@ use Rattle.row.proofs.Readers.{head-cell}
 use Rattle.row.proofs.Held.{transaction-there, held-before}
 use Rattle.writer.specs.Parts.{header_bits, head_bits, front_bits, back_bits}
 use Rattle.writer.proofs.Scanned.{modes-there, tasks-there}
-use Rattle.row.specs.Row.{transaction_cell, modes_cell, has_cell, task_cell, times_cell, task_of, tasks_before, transaction_of, table_of, head_cell, body_cell, time_cell}
+use Rattle.row.specs.Row.{transaction_cell, modes_cell, has_cell, task_cell, times_cell, task_of, tasks_before, transaction_of, table_of, head_cell}
 
 -- ---- one more list behind those that are put
 
