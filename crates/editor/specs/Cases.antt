@@ -1,6 +1,6 @@
 -- What an editor is told of document 01's last image and of the same with a deadline of 0, computed: the number, and the first cells
 -- of an array that held sevens.
-use Rattle.std.specs.Prelude.{◌≡◌, refl, List, [], ◌∷◌, map, ℕ, take, replicate}
+use Rattle.std.specs.Prelude.{◌≡◌, refl, [], ◌∷◌, map, ℕ, take, replicate}
 use Rattle.bits.specs.Bits.{field_bits}
 use Rattle.refusals.specs.Answer.{answer_number, answer_place}
 use Rattle.table.specs.Table.{Table, transactions, transaction, tasks, task}
