@@ -5,23 +5,51 @@
 
 ghost use Rattle.std.specs.Prelude.{◌≤◌, ◌<◌, ◌^◌, length};
 
-use libc::STDOUT_FILENO;
 use row::Table;
+use std::io::{Print, Read, Stdin, Stdout};
+
+// The bytes of standard input that are read.
+const TEXT: usize = 65_536;
 
 // More bytes than the longest image has.
 const MOST: usize = image::Reading::LONGEST + 1;
 
-fn main() {
-    let mut text = io::large_buffer();
-    let n = io::read_full(0, &mut text);
-    lines(&text[..n]);
+fn main(rt: HostRuntime) {
+    let mut text = [0u8; TEXT];
+    let n = filled(rt.stdin(), &mut text);
+    lines(rt.stdout(), &text[..n]);
 }
 
-fn lines(text: &[u8]) {
+// Fills the buffer, to its end or to the end of the input; where reading fails, the input ends.
+fn filled(from: Stdin, text: &mut [u8]) -> usize
+    ensures { result ≤ length text.old }
+{
+    let mut from = from;
+    let mut n: usize = 0;
+    while n < text.len() {
+        let more = from.read(&mut text[n..]).unwrap_or(0);
+        if more == 0 {
+            return n;
+        }
+        n += more;
+    }
+    n
+}
+
+// A text that can't be written is lost.
+fn say(out: Stdout, text: &[u8]) {
+    out.write_all(text).unwrap_or(());
+}
+
+fn number(out: Stdout, n: u64) {
+    out.print(n).unwrap_or(());
+}
+
+fn lines(out: Stdout, text: &[u8]) {
     let mut at: usize = 0;
     while at < text.len() {
         let end = line_end(text, at);
-        line(&text[at..end]);
+        line(out, &text[at..end]);
         at = end + 1;
     }
 }
@@ -41,17 +69,17 @@ fn line_end(text: &[u8], at: usize) -> usize
     end
 }
 
-fn line(text: &[u8]) {
+fn line(out: Stdout, text: &[u8]) {
     if 0 < text.len() {
         if text[0] == b'#' {
-            io::write_all(STDOUT_FILENO, text);
-            end_line();
+            say(out, text);
+            end_line(out);
             return;
         }
     }
     let mut bytes = [0u8; MOST];
     let n = decoded(text, &mut bytes);
-    show(&bytes[..n]);
+    show(out, &bytes[..n]);
 }
 
 // The bytes that pairs of hexadecimal digits say.
@@ -83,25 +111,25 @@ fn joined(upper: u8, lower: u8) -> u8 {
     (upper % 16) * 16 + lower % 16
 }
 
-fn word(name: &[u8], n: u32) {
-    count_of(name, index(n));
+fn word(out: Stdout, name: &[u8], n: u32) {
+    count_of(out, name, index(n));
 }
 
-fn count_of(name: &[u8], n: usize) {
-    io::write_all(STDOUT_FILENO, name);
-    io::print_decimal(STDOUT_FILENO, n as u64);
+fn count_of(out: Stdout, name: &[u8], n: usize) {
+    say(out, name);
+    number(out, n as u64);
 }
 
-fn show(image: &[u8]) {
+fn show(out: Stdout, image: &[u8]) {
     let got = image::read(image);
     let answer = got.answer;
     let table = got.table;
-    io::print_decimal(STDOUT_FILENO, answer.number() as u64);
-    io::write_all(STDOUT_FILENO, b" ");
-    io::print_decimal(STDOUT_FILENO, answer.place() as u64);
-    end_line();
+    number(out, answer.number() as u64);
+    say(out, b" ");
+    number(out, answer.place() as u64);
+    end_line(out);
     if answer.is_accepted() {
-        show_table(&table.cells);
+        show_table(out, &table.cells);
     }
 }
 
@@ -111,65 +139,65 @@ fn index(x: u32) -> usize
     x as usize
 }
 
-fn show_table(row: &[u32]) {
-    show_header(row);
+fn show_table(out: Stdout, row: &[u32]) {
+    show_header(out, row);
     let count = index(Table::transactions(row));
     for u in 0..count {
-        show_transaction(row, u);
+        show_transaction(out, row, u);
     }
 }
 
-fn show_header(row: &[u32]) {
-    word(b"edition ", Table::edition(row));
-    word(b" frame ", Table::frame(row));
-    word(b" transactions ", Table::transactions(row));
-    word(b" tasks ", Table::in_all(row));
-    end_line();
+fn show_header(out: Stdout, row: &[u32]) {
+    word(out, b"edition ", Table::edition(row));
+    word(out, b" frame ", Table::frame(row));
+    word(out, b" transactions ", Table::transactions(row));
+    word(out, b" tasks ", Table::in_all(row));
+    end_line(out);
 }
 
-fn show_transaction(row: &[u32], u: usize) {
-    show_head(row, u);
+fn show_transaction(out: Stdout, row: &[u32], u: usize) {
+    show_head(out, row, u);
     let first = index(Table::first(row, u));
     let count = index(Table::tasks(row, u));
     for j in 0..count {
-        place(u, j);
-        show_task(row, first + j, index(Table::modes(row, u)));
+        place(out, u, j);
+        show_task(out, row, first + j, index(Table::modes(row, u)));
     }
 }
 
-fn show_head(row: &[u32], u: usize) {
-    count_of(b"transaction ", u);
-    word(b" period ", Table::period(row, u));
-    word(b" modes ", Table::modes(row, u));
-    word(b" first ", Table::first(row, u));
-    word(b" tasks ", Table::tasks(row, u));
-    end_line();
+fn show_head(out: Stdout, row: &[u32], u: usize) {
+    count_of(out, b"transaction ", u);
+    word(out, b" period ", Table::period(row, u));
+    word(out, b" modes ", Table::modes(row, u));
+    word(out, b" first ", Table::first(row, u));
+    word(out, b" tasks ", Table::tasks(row, u));
+    end_line(out);
 }
 
 // The transaction of a task, and its place there.
-fn place(u: usize, j: usize) {
-    count_of(b"task ", u);
-    count_of(b" ", j);
+fn place(out: Stdout, u: usize, j: usize) {
+    count_of(out, b"task ", u);
+    count_of(out, b" ", j);
 }
 
 // The task with number k, which has so many modes.
-fn show_task(row: &[u32], k: usize, modes: usize) {
-    show_fields(row, k);
+fn show_task(out: Stdout, row: &[u32], k: usize, modes: usize) {
+    show_fields(out, row, k);
     for m in 0..modes {
-        word(b" ", Table::time(row, k, m));
+        word(out, b" ", Table::time(row, k, m));
     }
-    end_line();
+    end_line(out);
 }
 
-fn show_fields(row: &[u32], k: usize) {
-    word(b" offset ", Table::offset(row, k));
-    word(b" jitter ", Table::jitter(row, k));
-    word(b" blocking ", Table::blocking(row, k));
-    word(b" deadline ", Table::deadline(row, k));
-    word(b" priority ", Table::priority(row, k));
-    io::write_all(STDOUT_FILENO, b" times");
+fn show_fields(out: Stdout, row: &[u32], k: usize) {
+    word(out, b" offset ", Table::offset(row, k));
+    word(out, b" jitter ", Table::jitter(row, k));
+    word(out, b" blocking ", Table::blocking(row, k));
+    word(out, b" deadline ", Table::deadline(row, k));
+    word(out, b" priority ", Table::priority(row, k));
+    say(out, b" times");
 }
 
-fn end_line() {
-    io::write_all(STDOUT_FILENO, b"\n");
+fn end_line(out: Stdout) {
+    say(out, b"\n");
 }
