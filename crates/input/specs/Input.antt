@@ -6,4 +6,4 @@ use Rattle.input.specs.declared.Input.TheVariants.{Bytes, Failed}
 
 abbrev pub Within : ℕ → Input → Type 0
 Within size (Bytes n) = n ≤ size
-Within size Failed = 0 < size
+Within size (Failed _) = 0 < size

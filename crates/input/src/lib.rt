@@ -6,7 +6,8 @@ ghost use Rattle.std.specs.Prelude.{length};
 ghost use Rattle.input.specs.Input.{Within};
 
 use image::Reading;
-use libc::STDIN_FILENO;
+use std::io;
+use std::io::{Read, Stdin};
 
 // One byte more than the longest image, so that a longer input is seen to be too long.
 pub const BUFFER: usize = Reading::LONGEST + 1;
@@ -18,31 +19,32 @@ pub const BUDGET: u32 = 100_000_000;
 pub enum Input {
     // That many bytes stand in the buffer.
     Bytes(usize),
-    Failed,
+    // Why it failed.
+    Failed(io::Error),
 }
 
 // Fills the buffer from standard input.
-pub fn take_in(buffer: &mut [u8]) -> Input
+pub fn take_in(from: &mut Stdin, buffer: &mut [u8]) -> Input
     ensures { Within (length buffer.new) result }
 {
-    take_from(STDIN_FILENO, buffer)
+    take_from(from, buffer)
 }
 
-// Fills the buffer, to its end or to the end of what a descriptor gives.
-pub fn take_from(descriptor: i32, buffer: &mut [u8]) -> Input
+// Fills the buffer, to its end or to the end of what a reader gives.
+pub fn take_from<R: Read>(from: &mut R, buffer: &mut [u8]) -> Input
     ensures { Within (length buffer.new) result }
 {
     let mut n: usize = 0;
     while n < buffer.len() {
-        let got = libc::read(descriptor, &mut buffer[n..]);
-        if got < 0 {
-            return Input::Failed;
+        match from.read(&mut buffer[n..]) {
+            Err(e) => return Input::Failed(e),
+            Ok(more) => {
+                if more == 0 {
+                    return Input::Bytes(n);
+                }
+                n += more;
+            }
         }
-        let more = io::count(got, &buffer[n..]);
-        if more == 0 {
-            return Input::Bytes(n);
-        }
-        n += more;
     }
     Input::Bytes(n)
 }
