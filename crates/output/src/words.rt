@@ -1,5 +1,6 @@
 // The words that a program is started with, its arguments.
-use libc::STDERR_FILENO;
+use std::env::{Env, FillError};
+use std::io::Print;
 
 // More bytes than any word has.
 const MOST: usize = 32;
@@ -47,27 +48,34 @@ fn word(text: &[u8]) -> Words {
     }
 }
 
-fn no_such_word(name: &[u8], text: &[u8]) {
-    io::write_all(STDERR_FILENO, name);
-    io::write_all(STDERR_FILENO, b": no such word: ");
-    io::write_all(STDERR_FILENO, text);
-    io::write_all(STDERR_FILENO, b"\n");
+fn no_such_word(rt: &HostRuntime, name: &[u8], text: &[u8]) {
+    let _ = rt.stderr().write_all(name);
+    let _ = rt.stderr().write_all(b": no such word: ");
+    let _ = rt.stderr().write_all(text);
+    let _ = rt.stderr().write_all(b"\n");
 }
 
-// One argument: the word that it is, where the program knows it. One that is too long is no word, and its beginning is shown.
-fn argument(name: &[u8], known: Words, i: usize) -> Asked {
+// One argument, where there are so many: the word that it is, where the program knows it. One that is too long is no word, and its
+// beginning is shown.
+fn argument(rt: &HostRuntime, name: &[u8], known: Words, i: usize) -> Option<Asked> {
     let mut text = [0u8; MOST];
-    let n = os::arg(i, &mut text);
-    if os::errno() == libc::ENAMETOOLONG {
-        no_such_word(name, &text);
-        return Asked::Unknown;
+    match rt.arg(i, &mut text) {
+        Err(FillError::NotPresent) => None,
+        Err(FillError::TooLong) => {
+            no_such_word(rt, name, &text);
+            Some(Asked::Unknown)
+        }
+        Ok(n) => Some(one_of(rt, name, known, &text[..n])),
     }
-    let given = word(&text[..n]);
+}
+
+fn one_of(rt: &HostRuntime, name: &[u8], known: Words, text: &[u8]) -> Asked {
+    let given = word(text);
     let fits = common(given, known);
     if fits {
         return Asked::Known(given);
     }
-    no_such_word(name, &text[..n]);
+    no_such_word(rt, name, text);
     Asked::Unknown
 }
 
@@ -93,7 +101,7 @@ fn joined(a: Words, b: Words) -> Words {
 }
 
 // Which of the words that a program knows it was given, in any order.
-pub(crate) fn given(name: &[u8], known: Words) -> Asked {
+pub(crate) fn given(rt: &HostRuntime, name: &[u8], known: Words) -> Asked {
     let mut all = Words {
         verdict: false,
         open: false,
@@ -102,14 +110,12 @@ pub(crate) fn given(name: &[u8], known: Words) -> Asked {
         aligned: false,
         explain: false,
     };
-    let count = os::arg_count();
-    let mut i: usize = 1;
-    while i < count {
-        let Asked::Known(one) = argument(name, known, i) else {
-            return Asked::Unknown;
-        };
-        all = joined(all, one);
-        i += 1;
+    for i in 1..usize::MAX {
+        match argument(rt, name, known, i) {
+            None => return Asked::Known(all),
+            Some(Asked::Known(one)) => all = joined(all, one),
+            Some(Asked::Unknown) => return Asked::Unknown,
+        }
     }
     Asked::Known(all)
 }

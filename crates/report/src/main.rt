@@ -13,7 +13,7 @@ mod style;
 mod tasks;
 mod top;
 
-ghost use Rattle.io.specs.Counts.{IsPrefixLen};
+ghost use Rattle.input.specs.Input.{IsPrefixLen};
 
 use asked::Asked;
 use compared::Old;
