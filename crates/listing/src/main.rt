@@ -2,25 +2,29 @@
 // the library; what is printed is held to stored output by the check.
 #![tactic(auto)]
 
-use output::{Verdict, Words};
+use output::{Out, Verdict, Words};
 use row::Table;
 use sumpcandle::{Filled, TaskCells};
 
-fn line(whole: bool, cells: &[u32; sumpcandle::CELLS], k: usize) -> bool {
+fn line(out: &mut Out, whole: bool, cells: &[u32; sumpcandle::CELLS], k: usize) -> bool {
     if Table::TASKS <= k {
         return whole;
     }
-    let mut whole = output::number(whole, k as u64, 0);
+    let mut whole = output::number(out, whole, k as u64, 0);
     for i in 0..TaskCells::COUNT {
-        whole = output::cell(whole, cells[TaskCells::COUNT * k + i], false);
+        whole = output::cell(out, whole, cells[TaskCells::COUNT * k + i], false);
     }
-    output::say(whole, b"\n")
+    output::say(out, whole, b"\n")
 }
 
-fn lines(cells: &[u32; sumpcandle::CELLS], tasks: usize) -> bool {
-    let mut whole = output::say(true, b"task code bound evaluations mode candidate job\n");
+fn lines(out: &mut Out, cells: &[u32; sumpcandle::CELLS], tasks: usize) -> bool {
+    let mut whole = output::say(
+        out,
+        true,
+        b"task code bound evaluations mode candidate job\n",
+    );
     for k in 0..tasks {
-        whole = line(whole, cells, k);
+        whole = line(out, whole, cells, k);
     }
     whole
 }
@@ -33,30 +37,42 @@ fn found(cells: &[u32; sumpcandle::CELLS], tasks: usize) -> Verdict {
     }
 }
 
-fn refused(told: Filled) -> bool {
-    let whole = output::say(true, b"refused");
-    let whole = output::cell(whole, told.number(), false);
-    let whole = output::number(output::say(whole, b" "), told.place() as u64, 0);
-    output::say(whole, b"\n")
+fn refused(out: &mut Out, told: Filled) -> bool {
+    let whole = output::say(out, true, b"refused");
+    let whole = output::cell(out, whole, told.number(), false);
+    let whole = output::say(out, whole, b" ");
+    let whole = output::number(out, whole, told.place() as u64, 0);
+    output::say(out, whole, b"\n")
 }
 
-fn list(words: Words, image: &[u8]) {
+fn list(rt: &HostRuntime, words: Words, image: &[u8]) {
+    let mut out = Out::new(rt.stdout());
     let mut cells = [0u32; sumpcandle::CELLS];
     let told = sumpcandle::cells(image, input::BUDGET, &mut cells);
     match told {
         Filled::Done(tasks) => {
-            let whole = lines(&cells, tasks);
-            output::end(b"listing", words, image, whole, found(&cells, tasks));
+            let whole = lines(&mut out, &cells, tasks);
+            output::end(
+                rt,
+                &out,
+                b"listing",
+                words,
+                image,
+                whole,
+                found(&cells, tasks),
+            );
         }
         Filled::Refused(_, _) => {
-            output::end(b"listing", words, image, refused(told), Verdict::Refused);
+            let whole = refused(&mut out, told);
+            output::end(rt, &out, b"listing", words, image, whole, Verdict::Refused);
         }
     }
 }
 
-fn main() {
+fn main(rt: HostRuntime) {
     let mut image = [0u8; input::BUFFER];
     let begun = output::begin(
+        &rt,
         b"listing",
         Words {
             verdict: true,
@@ -70,6 +86,6 @@ fn main() {
     );
     let n = begun.n;
     if begun.ready {
-        list(begun.words, &image[..n]);
+        list(&rt, begun.words, &image[..n]);
     }
 }
