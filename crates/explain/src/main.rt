@@ -3,7 +3,7 @@
 
 ghost use Rattle.std.specs.Prelude.{◌≡◌, ◌+◌, ◌^◌, ◌<◌};
 
-use output::{Verdict, Words};
+use output::{Out, Verdict, Words};
 use parts::{Made, Part, Parts};
 use row::Table;
 use sumpcandle::{Filled, TaskCells};
@@ -113,24 +113,25 @@ fn over_all(cells: &[u32; sumpcandle::CELLS], table: &[u32], tasks: usize) -> Su
 }
 
 // Each column but the first has a blank before it.
-fn columns(whole: bool, table: &[u32], k: usize, line: Line) -> bool {
+fn columns(out: &mut Out, whole: bool, table: &[u32], k: usize, line: Line) -> bool {
     let u = Table::owner(table, k);
-    let whole = output::grouped(whole, k as u64, 4);
-    let whole = output::grouped(whole, u as u64, 6);
-    let whole = output::grouped(whole, Table::period(table, u as usize) as u64, 11);
-    let whole = output::grouped(whole, Table::priority(table, k) as u64, 9);
+    let whole = output::grouped(out, whole, k as u64, 4);
+    let whole = output::grouped(out, whole, u as u64, 6);
+    let whole = output::grouped(out, whole, Table::period(table, u as usize) as u64, 11);
+    let whole = output::grouped(out, whole, Table::priority(table, k) as u64, 9);
     let whole = if line.bound == TaskCells::NO_BOUND {
-        output::say(whole, b"          -")
+        output::say(out, whole, b"          -")
     } else {
-        output::grouped(whole, line.bound as u64, 11)
+        output::grouped(out, whole, line.bound as u64, 11)
     };
-    output::grouped(whole, line.deadline as u64, 11)
+    output::grouped(out, whole, line.deadline as u64, 11)
 }
 
-fn meaning(whole: bool, line: Line) -> bool {
+fn meaning(out: &mut Out, whole: bool, line: Line) -> bool {
     let code = line.code;
     if code == TaskCells::KEPT {
         return output::count(
+            out,
             whole,
             b"  in time, ",
             beyond(line.deadline, line.bound),
@@ -139,6 +140,7 @@ fn meaning(whole: bool, line: Line) -> bool {
     }
     if code == TaskCells::LATE {
         return output::count(
+            out,
             whole,
             b"  not shown to be in time, ",
             beyond(line.bound, line.deadline),
@@ -147,12 +149,14 @@ fn meaning(whole: bool, line: Line) -> bool {
     }
     if code == TaskCells::OVERLOAD {
         return output::say(
+            out,
             whole,
             b"  no bound: it and the tasks that can delay it may want more than the major frame holds",
         );
     }
     if code == TaskCells::BEYOND {
         return output::count(
+            out,
             whole,
             b"  no bound: no busy time up to the horizon of ",
             Table::HORIZON as u64,
@@ -161,6 +165,7 @@ fn meaning(whole: bool, line: Line) -> bool {
     }
     if code == TaskCells::SPENT {
         return output::count(
+            out,
             whole,
             b"  not decided: ",
             input::BUDGET as u64,
@@ -168,6 +173,7 @@ fn meaning(whole: bool, line: Line) -> bool {
         );
     }
     output::count(
+        out,
         whole,
         b"  a code that is not known here: ",
         code as u64,
@@ -176,32 +182,35 @@ fn meaning(whole: bool, line: Line) -> bool {
 }
 
 // The task that sets the critical instant, and its mode, behind a text.
-fn set_by(whole: bool, text: &[u8], task: u32, mode: u32, end: &[u8]) -> bool {
-    let whole = output::count(whole, text, task as u64, b" sets it in mode ");
-    output::count(whole, b"", mode as u64, end)
+fn set_by(out: &mut Out, whole: bool, text: &[u8], task: u32, mode: u32, end: &[u8]) -> bool {
+    let whole = output::count(out, whole, text, task as u64, b" sets it in mode ");
+    output::count(out, whole, b"", mode as u64, end)
 }
 
 // Ticks in the column of the bounds.
-fn ticks(whole: bool, n: u64) -> bool {
-    output::grouped(output::say(whole, b"               "), n, 26)
+fn ticks(out: &mut Out, whole: bool, n: u64) -> bool {
+    let whole = output::say(out, whole, b"               ");
+    output::grouped(out, whole, n, 26)
 }
 
 // A part of the completion, left out where it is 0.
-fn part(whole: bool, n: u32, text: &[u8]) -> bool {
+fn part(out: &mut Out, whole: bool, n: u32, text: &[u8]) -> bool {
     if n == 0 {
         return whole;
     }
-    output::say(ticks(whole, n as u64), text)
+    let whole = ticks(out, whole, n as u64);
+    output::say(out, whole, text)
 }
 
 // What another transaction charges, if it has rivals.
-fn other(whole: bool, image: &[u8], k: u32, i: u32, completion: u32) -> bool {
+fn other(out: &mut Out, whole: bool, image: &[u8], k: u32, i: u32, completion: u32) -> bool {
     let Part::Charged(charge) = sumpcandle::charge(image, k, i, false, completion) else {
         return whole;
     };
-    let whole = ticks(whole, charge.ticks);
-    let whole = output::count(whole, b"  transaction ", i as u64, b"");
+    let whole = ticks(out, whole, charge.ticks);
+    let whole = output::count(out, whole, b"  transaction ", i as u64, b"");
     set_by(
+        out,
         whole,
         b", most when task ",
         charge.candidate,
@@ -210,58 +219,77 @@ fn other(whole: bool, image: &[u8], k: u32, i: u32, completion: u32) -> bool {
     )
 }
 
-fn others(whole: bool, image: &[u8], k: u32, count: u32, completion: u32) -> bool {
+fn others(out: &mut Out, whole: bool, image: &[u8], k: u32, count: u32, completion: u32) -> bool {
     let mut whole = whole;
     for i in 0..count {
-        whole = other(whole, image, k, i, completion);
+        whole = other(out, whole, image, k, i, completion);
     }
     whole
 }
 
 // How far from the instant the job arrived, on which side, and the bound that follows: completion − arrival + offset.
-fn arrived(whole: bool, by: u64, side: &[u8], sign: &[u8], of: Parts, bound: u32) -> bool {
-    let whole = output::count(whole, b"      arrived ", by, side);
-    let whole = output::count(whole, b" that instant, offset ", of.offset as u64, b": ");
-    let whole = output::count(whole, b"", of.completion as u64, sign);
-    let whole = output::count(whole, b"", by, b" + ");
-    let whole = output::count(whole, b"", of.offset as u64, b" = ");
-    output::count(whole, b"", bound as u64, b"\n")
+fn arrived(
+    out: &mut Out,
+    whole: bool,
+    by: u64,
+    side: &[u8],
+    sign: &[u8],
+    of: Parts,
+    bound: u32,
+) -> bool {
+    let whole = output::count(out, whole, b"      arrived ", by, side);
+    let whole = output::count(
+        out,
+        whole,
+        b" that instant, offset ",
+        of.offset as u64,
+        b": ",
+    );
+    let whole = output::count(out, whole, b"", of.completion as u64, sign);
+    let whole = output::count(out, whole, b"", by, b" + ");
+    let whole = output::count(out, whole, b"", of.offset as u64, b" = ");
+    output::count(out, whole, b"", bound as u64, b"\n")
 }
 
 // The arrival is completion + offset − bound.
-fn response(whole: bool, of: Parts, bound: u32) -> bool {
+fn response(out: &mut Out, whole: bool, of: Parts, bound: u32) -> bool {
     let end = of.completion as u64 + of.offset as u64;
     let before = ahead(bound as u64, end);
     if 0 < before {
-        return arrived(whole, before, b" before", b" + ", of, bound);
+        return arrived(out, whole, before, b" before", b" + ", of, bound);
     }
     let after = ahead(end, bound as u64);
-    arrived(whole, after, b" after", b" - ", of, bound)
+    arrived(out, whole, after, b" after", b" - ", of, bound)
 }
 
 // What the bound of a task is made of, under its line: the parts add up to the completion.
-fn made_of(whole: bool, image: &[u8], table: &[u32], k: u32, line: Line, of: Parts) -> bool {
+fn made_of(
+    out: &mut Out,
+    whole: bool,
+    image: &[u8],
+    table: &[u32],
+    k: u32,
+    line: Line,
+    of: Parts,
+) -> bool {
     let t = of.completion;
     let whole = output::count(
+        out,
         whole,
         b"      completes ",
         t as u64,
         b" after the critical instant",
     );
-    let whole = set_by(whole, b"; task ", line.candidate, line.mode, b":\n");
-    let whole = part(whole, of.blocking, b"  blocking\n");
-    let whole = output::count(
-        ticks(whole, of.jobs as u64),
-        b"  its own jobs (",
-        line.job as u64 + 1,
-        b")\n",
-    );
-    let whole = part(whole, of.rivals, b"  other tasks of its transaction\n");
-    let whole = others(whole, image, k, Table::transactions(table), t);
-    response(whole, of, line.bound)
+    let whole = set_by(out, whole, b"; task ", line.candidate, line.mode, b":\n");
+    let whole = part(out, whole, of.blocking, b"  blocking\n");
+    let whole = ticks(out, whole, of.jobs as u64);
+    let whole = output::count(out, whole, b"  its own jobs (", line.job as u64 + 1, b")\n");
+    let whole = part(out, whole, of.rivals, b"  other tasks of its transaction\n");
+    let whole = others(out, whole, image, k, Table::transactions(table), t);
+    response(out, whole, of, line.bound)
 }
 
-fn made(whole: bool, image: &[u8], table: &[u32], k: usize, line: Line) -> bool {
+fn made(out: &mut Out, whole: bool, image: &[u8], table: &[u32], k: usize, line: Line) -> bool {
     if Table::TASKS <= k {
         return whole;
     }
@@ -269,27 +297,38 @@ fn made(whole: bool, image: &[u8], table: &[u32], k: usize, line: Line) -> bool 
     let Made::Of(of) = sumpcandle::parts(image, k, input::BUDGET) else {
         return whole;
     };
-    made_of(whole, image, table, k, line, of)
+    made_of(out, whole, image, table, k, line, of)
 }
 
-fn task(whole: bool, words: Words, image: &[u8], table: &[u32], k: usize, line: Line) -> bool {
+fn task(
+    out: &mut Out,
+    whole: bool,
+    words: Words,
+    image: &[u8],
+    table: &[u32],
+    k: usize,
+    line: Line,
+) -> bool {
     let kept = line.code == TaskCells::KEPT;
     let hidden = words.open & kept;
     if hidden {
         return whole;
     }
     let red = words.colour & !kept;
-    let whole = columns(output::begin_line(whole, red), table, k, line);
-    let whole = output::end_line(meaning(whole, line), red);
+    let whole = output::begin_line(out, whole, red);
+    let whole = columns(out, whole, table, k, line);
+    let whole = meaning(out, whole, line);
+    let whole = output::end_line(out, whole, red);
     // a bound is at least 1, and without one there is nothing to ask: that would only walk again
     let asked = (words.all | !kept) & (0 < line.bound);
     if asked {
-        return made(whole, image, table, k, line);
+        return made(out, whole, image, table, k, line);
     }
     whole
 }
 
 fn every_task(
+    out: &mut Out,
     words: Words,
     image: &[u8],
     cells: &[u32; sumpcandle::CELLS],
@@ -301,58 +340,68 @@ fn every_task(
     let shown = !words.open | (0 < open);
     if shown {
         whole = output::say(
+            out,
             whole,
             b"task trans     period priority      bound   deadline\n",
         );
     }
     for k in 0..tasks {
-        whole = task(whole, words, image, table, k, line_of(cells, table, k));
+        whole = task(out, whole, words, image, table, k, line_of(cells, table, k));
     }
     whole
 }
 
 // How many are in time, how many not, and the worst of these.
-fn not_all(whole: bool, s: Summary, worst: Line) -> bool {
-    let whole = output::count(whole, b"", s.kept, b" in time, ");
-    let whole = output::count(whole, b"", s.open, b" not shown to be (");
+fn not_all(out: &mut Out, whole: bool, s: Summary, worst: Line) -> bool {
+    let whole = output::count(out, whole, b"", s.kept, b" in time, ");
+    let whole = output::count(out, whole, b"", s.open, b" not shown to be (");
     let whole = if 1 < s.open {
-        output::say(whole, b"worst ")
+        output::say(out, whole, b"worst ")
     } else {
         whole
     };
-    let whole = output::count(whole, b"task ", s.worst as u64, b", ");
+    let whole = output::count(out, whole, b"task ", s.worst as u64, b", ");
     if worst.code == TaskCells::LATE {
-        return output::count(whole, b"", s.above, b" above)");
+        return output::count(out, whole, b"", s.above, b" above)");
     }
     if worst.code == TaskCells::SPENT {
-        return output::say(whole, b"not decided)");
+        return output::say(out, whole, b"not decided)");
     }
-    output::say(whole, b"no bound)")
+    output::say(out, whole, b"no bound)")
 }
 
-fn last_line(whole: bool, words: Words, tasks: usize, s: Summary, worst: Line) -> bool {
+fn last_line(
+    out: &mut Out,
+    whole: bool,
+    words: Words,
+    tasks: usize,
+    s: Summary,
+    worst: Line,
+) -> bool {
     let red = words.colour & (0 < s.open);
-    let whole = output::begin_line(whole, red);
+    let whole = output::begin_line(out, whole, red);
     let whole = if tasks == 1 {
-        output::say(whole, b"1 task: ")
+        output::say(out, whole, b"1 task: ")
     } else {
-        output::count(whole, b"", tasks as u64, b" tasks: ")
+        output::count(out, whole, b"", tasks as u64, b" tasks: ")
     };
     let whole = if s.open == 0 {
-        output::say(whole, b"all in time")
+        output::say(out, whole, b"all in time")
     } else {
-        not_all(whole, s, worst)
+        not_all(out, whole, s, worst)
     };
     if s.kept == 0 {
-        return output::end_line(whole, red);
+        return output::end_line(out, whole, red);
     }
-    let whole = output::count(whole, b"; least to spare ", s.spare, b" (task ");
-    let whole = output::count(whole, b"", s.nearest as u64, b")");
-    output::end_line(whole, red)
+    let whole = output::count(out, whole, b"; least to spare ", s.spare, b" (task ");
+    let whole = output::count(out, whole, b"", s.nearest as u64, b")");
+    output::end_line(out, whole, red)
 }
 
 // All lines, and whether every task is in time.
 fn accepted(
+    rt: &HostRuntime,
+    out: &mut Out,
     words: Words,
     image: &[u8],
     cells: &[u32; sumpcandle::CELLS],
@@ -360,32 +409,34 @@ fn accepted(
     tasks: usize,
 ) {
     let s = over_all(cells, table, tasks);
-    let whole = every_task(words, image, cells, table, tasks, s.open);
+    let whole = every_task(out, words, image, cells, table, tasks, s.open);
     let worst = line_of(cells, table, s.worst);
-    let whole = last_line(whole, words, tasks, s, worst);
+    let whole = last_line(out, whole, words, tasks, s, worst);
     let verdict = if TaskCells::all_kept(cells, tasks) {
         Verdict::Kept
     } else {
         Verdict::NotShown
     };
-    output::end(b"explain", words, image, whole, verdict);
+    output::end(rt, out, b"explain", words, image, whole, verdict);
 }
 
-fn explain(words: Words, image: &[u8]) {
+fn explain(rt: &HostRuntime, words: Words, image: &[u8]) {
     let table = image::read(image).table;
+    let mut out = Out::new(rt.stdout());
     let mut cells = [0u32; sumpcandle::CELLS];
     match sumpcandle::cells(image, input::BUDGET, &mut cells) {
         Filled::Refused(refusal, at) => {
-            let whole = output::refused(true, image, refusal, at);
-            output::end(b"explain", words, image, whole, Verdict::Refused);
+            let whole = output::refused(&mut out, true, image, refusal, at);
+            output::end(rt, &out, b"explain", words, image, whole, Verdict::Refused);
         }
-        Filled::Done(tasks) => accepted(words, image, &cells, &table.cells, tasks),
+        Filled::Done(tasks) => accepted(rt, &mut out, words, image, &cells, &table.cells, tasks),
     }
 }
 
-fn main() {
+fn main(rt: HostRuntime) {
     let mut image = [0u8; input::BUFFER];
     let begun = output::begin(
+        &rt,
         b"explain",
         Words {
             verdict: true,
@@ -399,6 +450,6 @@ fn main() {
     );
     let n = begun.n;
     if begun.ready {
-        explain(begun.words, &image[..n]);
+        explain(&rt, begun.words, &image[..n]);
     }
 }

@@ -5,7 +5,7 @@
 ghost use Rattle.std.specs.Prelude.{◌≡◌, ◌+◌, ◌^◌, ◌<◌};
 
 use beside::Response;
-use output::{Verdict, Words};
+use output::{Out, Verdict, Words};
 use refusals::{PlainRefusal, Refusal};
 use row::Table;
 use sumpcandle::{Filled, TaskCells};
@@ -79,28 +79,29 @@ fn with(s: Summary, line: Line) -> Summary
     s
 }
 
-fn listed(whole: bool, k: usize, line: Line) -> bool {
-    let whole = output::number(whole, k as u64, 0);
-    let whole = output::cell(whole, line.code, false);
-    let whole = output::cell(whole, line.bound, false);
-    let whole = output::cell(whole, line.number, false);
-    let whole = output::cell(whole, line.response, false);
-    output::say(whole, b"\n")
+fn listed(out: &mut Out, whole: bool, k: usize, line: Line) -> bool {
+    let whole = output::number(out, whole, k as u64, 0);
+    let whole = output::cell(out, whole, line.code, false);
+    let whole = output::cell(out, whole, line.bound, false);
+    let whole = output::cell(out, whole, line.number, false);
+    let whole = output::cell(out, whole, line.response, false);
+    output::say(out, whole, b"\n")
 }
 
 // Ticks in a column, or that there are none.
-fn ticks(whole: bool, n: u32) -> bool {
+fn ticks(out: &mut Out, whole: bool, n: u32) -> bool {
     if n == 0 {
-        output::say(whole, b"          -")
+        output::say(out, whole, b"          -")
     } else {
-        output::grouped(whole, n as u64, 11)
+        output::grouped(out, whole, n as u64, 11)
     }
 }
 
-fn compared(whole: bool, line: Line) -> bool {
+fn compared(out: &mut Out, whole: bool, line: Line) -> bool {
     let more = above(line);
     if 0 < more {
         return output::count(
+            out,
             whole,
             b"  ",
             more,
@@ -108,21 +109,27 @@ fn compared(whole: bool, line: Line) -> bool {
         );
     }
     if line.response <= line.period {
-        return output::say(whole, b"  agree: the bound is response + offset\n");
+        return output::say(out, whole, b"  agree: the bound is response + offset\n");
     }
-    output::say(whole, b"  agree, though the response is above the period\n")
+    output::say(
+        out,
+        whole,
+        b"  agree, though the response is above the period\n",
+    )
 }
 
 // Why a task with a response has no bound.
-fn not_bounded(whole: bool, code: u32) -> bool {
+fn not_bounded(out: &mut Out, whole: bool, code: u32) -> bool {
     if code == TaskCells::OVERLOAD {
         return output::say(
+            out,
             whole,
             b"  no bound: it and the tasks that can delay it may want more than the major frame holds; the response is above the period, and is that of one job alone\n",
         );
     }
     if code == TaskCells::BEYOND {
         return output::count(
+            out,
             whole,
             b"  no bound: no busy time up to the horizon of ",
             Table::HORIZON as u64,
@@ -131,6 +138,7 @@ fn not_bounded(whole: bool, code: u32) -> bool {
     }
     if code == TaskCells::SPENT {
         return output::count(
+            out,
             whole,
             b"  not decided: ",
             input::BUDGET as u64,
@@ -138,6 +146,7 @@ fn not_bounded(whole: bool, code: u32) -> bool {
         );
     }
     output::count(
+        out,
         whole,
         b"  a code that is not known here: ",
         code as u64,
@@ -145,13 +154,15 @@ fn not_bounded(whole: bool, code: u32) -> bool {
     )
 }
 
-fn explained(whole: bool, k: usize, line: Line) -> bool {
-    let whole = output::grouped(whole, k as u64, 4);
-    let whole = output::grouped(whole, line.period as u64, 11);
-    let whole = output::grouped(whole, line.offset as u64, 11);
-    let whole = ticks(ticks(whole, line.response), line.bound);
+fn explained(out: &mut Out, whole: bool, k: usize, line: Line) -> bool {
+    let whole = output::grouped(out, whole, k as u64, 4);
+    let whole = output::grouped(out, whole, line.period as u64, 11);
+    let whole = output::grouped(out, whole, line.offset as u64, 11);
+    let whole = ticks(out, whole, line.response);
+    let whole = ticks(out, whole, line.bound);
     if line.response == 0 {
         return output::count(
+            out,
             whole,
             b"  no response: no completion up to the horizon of ",
             Table::HORIZON as u64,
@@ -159,40 +170,47 @@ fn explained(whole: bool, k: usize, line: Line) -> bool {
         );
     }
     if line.bound == TaskCells::NO_BOUND {
-        return not_bounded(whole, line.code);
+        return not_bounded(out, whole, line.code);
     }
-    compared(whole, line)
+    compared(out, whole, line)
 }
 
 // A number of tasks, if there are any, with a comma in front where another one stands there.
-fn sort(whole: bool, first: bool, n: u64, name: &[u8]) -> bool {
+fn sort(out: &mut Out, whole: bool, first: bool, n: u64, name: &[u8]) -> bool {
     if n == 0 {
         return whole;
     }
     let whole = if first {
         whole
     } else {
-        output::say(whole, b", ")
+        output::say(out, whole, b", ")
     };
-    output::count(whole, b"", n, name)
+    output::count(out, whole, b"", n, name)
 }
 
-fn last_line(whole: bool, tasks: usize, s: Summary) -> bool {
+fn last_line(out: &mut Out, whole: bool, tasks: usize, s: Summary) -> bool {
     let whole = if tasks == 1 {
-        output::say(whole, b"1 task: ")
+        output::say(out, whole, b"1 task: ")
     } else {
-        output::count(whole, b"", tasks as u64, b" tasks: ")
+        output::count(out, whole, b"", tasks as u64, b" tasks: ")
     };
     if s.agree == tasks as u64 {
-        return output::say(whole, b"all agree\n");
+        return output::say(out, whole, b"all agree\n");
     }
-    let whole = sort(whole, true, s.agree, b" agree");
-    let whole = sort(whole, s.agree == 0, s.above, b" above");
-    let whole = sort(whole, s.apart == tasks as u64, s.apart, b" not to compare");
-    output::say(whole, b"\n")
+    let whole = sort(out, whole, true, s.agree, b" agree");
+    let whole = sort(out, whole, s.agree == 0, s.above, b" above");
+    let whole = sort(
+        out,
+        whole,
+        s.apart == tasks as u64,
+        s.apart,
+        b" not to compare",
+    );
+    output::say(out, whole, b"\n")
 }
 
 fn lines(
+    out: &mut Out,
     words: Words,
     image: &[u8],
     cells: &[u32; sumpcandle::CELLS],
@@ -205,21 +223,25 @@ fn lines(
         apart: 0,
     };
     let mut whole = if words.explain {
-        output::say(true, b"task     period     offset   response      bound\n")
+        output::say(
+            out,
+            true,
+            b"task     period     offset   response      bound\n",
+        )
     } else {
-        output::say(true, b"task code bound number response\n")
+        output::say(out, true, b"task code bound number response\n")
     };
     for k in 0..tasks {
         let line = line_of(image, cells, table, k);
         s = with(s, line);
         whole = if words.explain {
-            explained(whole, k, line)
+            explained(out, whole, k, line)
         } else {
-            listed(whole, k, line)
+            listed(out, whole, k, line)
         };
     }
     if words.explain {
-        return last_line(whole, tasks, s);
+        return last_line(out, whole, tasks, s);
     }
     whole
 }
@@ -236,71 +258,94 @@ fn several(table: &[u32]) -> usize {
     count
 }
 
-fn not_single(table: &[u32]) -> bool {
+fn not_single(out: &mut Out, table: &[u32]) -> bool {
     let u = several(table);
     let number = PlainRefusal::NotSingle.number();
-    let whole = output::count(true, b"table refused (", number as u64, b"): transaction ");
-    let whole = output::count(whole, b"", u as u64, b" has several tasks or modes (tasks ");
-    let whole = output::count(whole, b"", Table::tasks(table, u) as u64, b", modes ");
-    output::count(whole, b"", Table::modes(table, u) as u64, b")\n")
+    let whole = output::count(
+        out,
+        true,
+        b"table refused (",
+        number as u64,
+        b"): transaction ",
+    );
+    let whole = output::count(
+        out,
+        whole,
+        b"",
+        u as u64,
+        b" has several tasks or modes (tasks ",
+    );
+    let whole = output::count(out, whole, b"", Table::tasks(table, u) as u64, b", modes ");
+    output::count(out, whole, b"", Table::modes(table, u) as u64, b")\n")
 }
 
-fn refused(number: u32, at: usize) -> bool {
-    let whole = output::cell(output::say(true, b"refused"), number, false);
-    let whole = output::number(output::say(whole, b" "), at as u64, 0);
-    output::say(whole, b"\n")
+fn refused(out: &mut Out, number: u32, at: usize) -> bool {
+    let whole = output::say(out, true, b"refused");
+    let whole = output::cell(out, whole, number, false);
+    let whole = output::say(out, whole, b" ");
+    let whole = output::number(out, whole, at as u64, 0);
+    output::say(out, whole, b"\n")
 }
 
-fn image_refused(words: Words, image: &[u8], refusal: Refusal, at: usize) {
+fn image_refused(
+    rt: &HostRuntime,
+    out: &mut Out,
+    words: Words,
+    image: &[u8],
+    refusal: Refusal,
+    at: usize,
+) {
     let whole = if words.explain {
-        output::refused(true, image, refusal, at)
+        output::refused(out, true, image, refusal, at)
     } else {
-        refused(refusal.number(), at)
+        refused(out, refusal.number(), at)
     };
-    output::end(b"plain", words, image, whole, Verdict::Refused);
+    output::end(rt, out, b"plain", words, image, whole, Verdict::Refused);
 }
 
-fn table_refused(words: Words, image: &[u8], table: &[u32]) {
+fn table_refused(rt: &HostRuntime, out: &mut Out, words: Words, image: &[u8], table: &[u32]) {
     let whole = if words.explain {
-        not_single(table)
+        not_single(out, table)
     } else {
-        refused(PlainRefusal::NotSingle.number(), 0)
+        refused(out, PlainRefusal::NotSingle.number(), 0)
     };
-    output::end(b"plain", words, image, whole, Verdict::Refused);
+    output::end(rt, out, b"plain", words, image, whole, Verdict::Refused);
 }
 
-fn accepted(words: Words, image: &[u8], table: &[u32]) {
+fn accepted(rt: &HostRuntime, out: &mut Out, words: Words, image: &[u8], table: &[u32]) {
     let mut cells = [0u32; sumpcandle::CELLS];
     match sumpcandle::cells(image, input::BUDGET, &mut cells) {
-        Filled::Refused(refusal, at) => image_refused(words, image, refusal, at),
+        Filled::Refused(refusal, at) => image_refused(rt, out, words, image, refusal, at),
         Filled::Done(tasks) => {
-            let whole = lines(words, image, &cells, table, tasks);
+            let whole = lines(out, words, image, &cells, table, tasks);
             let verdict = if TaskCells::all_kept(&cells, tasks) {
                 Verdict::Kept
             } else {
                 Verdict::NotShown
             };
-            output::end(b"plain", words, image, whole, verdict);
+            output::end(rt, out, b"plain", words, image, whole, verdict);
         }
     }
 }
 
 // A table that is not fit for the plain analysis is refused before the other one, which may take long, is begun. Any table has a task 0.
-fn plain(words: Words, image: &[u8]) {
+fn plain(rt: &HostRuntime, words: Words, image: &[u8]) {
     let table = image::read(image).table;
+    let mut out = Out::new(rt.stdout());
     match sumpcandle::plain(image, 0) {
-        Response::Refused(refusal, at) => image_refused(words, image, refusal, at),
-        Response::Of(_) => accepted(words, image, &table.cells),
+        Response::Refused(refusal, at) => image_refused(rt, &mut out, words, image, refusal, at),
+        Response::Of(_) => accepted(rt, &mut out, words, image, &table.cells),
         Response::Unfit(refusal) => match refusal {
-            PlainRefusal::NotSingle => table_refused(words, image, &table.cells),
-            _ => accepted(words, image, &table.cells),
+            PlainRefusal::NotSingle => table_refused(rt, &mut out, words, image, &table.cells),
+            _ => accepted(rt, &mut out, words, image, &table.cells),
         },
     }
 }
 
-fn main() {
+fn main(rt: HostRuntime) {
     let mut image = [0u8; input::BUFFER];
     let begun = output::begin(
+        &rt,
         b"plain",
         Words {
             verdict: true,
@@ -314,6 +359,6 @@ fn main() {
     );
     let n = begun.n;
     if begun.ready {
-        plain(begun.words, &image[..n]);
+        plain(&rt, begun.words, &image[..n]);
     }
 }
