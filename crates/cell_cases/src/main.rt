@@ -6,7 +6,7 @@
 
 ghost use Rattle.std.specs.Prelude.{◌<◌};
 
-use libc::{STDIN_FILENO, STDOUT_FILENO};
+use std::io::{Print, Read};
 
 // Some more than any table needs.
 const MOST: usize = sumpcandle::CELLS + 8;
@@ -18,33 +18,33 @@ fn two(high: u8, low: u8) -> u32
     (high as u32) * 256 + low as u32
 }
 
-fn number(x: u64) {
-    io::print_decimal(STDOUT_FILENO, x);
-    io::write_all(STDOUT_FILENO, b" ");
+fn number(rt: &HostRuntime, x: u64) {
+    let _ = rt.print(x);
+    let _ = rt.write_all(b" ");
 }
 
 fn wide(x: u32) -> u64 {
     x as u64
 }
 
-fn show(cells: &[u32]) {
+fn show(rt: &HostRuntime, cells: &[u32]) {
     let mut k: usize = 0;
     while k < cells.len() {
-        number(wide(cells[k]));
+        number(rt, wide(cells[k]));
         k += 1;
     }
-    io::write_all(STDOUT_FILENO, b"\n");
+    let _ = rt.write_all(b"\n");
 }
 
-fn told(image: &[u8], budget: u32, cells: &mut [u32]) {
+fn told(rt: &HostRuntime, image: &[u8], budget: u32, cells: &mut [u32]) {
     let answer = sumpcandle::cells(image, budget, cells);
-    number(wide(answer.number()));
-    number(answer.place() as u64);
-    number(sumpcandle::sumpcandle_response(image, 0, budget));
-    show(cells);
+    number(rt, wide(answer.number()));
+    number(rt, answer.place() as u64);
+    number(rt, sumpcandle::sumpcandle_response(image, 0, budget));
+    show(rt, cells);
 }
 
-fn with_cells(bytes: &[u8], n: usize, count: usize, budget: u32) {
+fn with_cells(rt: &HostRuntime, bytes: &[u8], n: usize, count: usize, budget: u32) {
     let mut cells = [7u32; MOST];
     if bytes.len() < n {
         return;
@@ -52,13 +52,14 @@ fn with_cells(bytes: &[u8], n: usize, count: usize, budget: u32) {
     if MOST < count {
         return;
     }
-    told(&bytes[..n], budget, &mut cells[..count]);
+    told(rt, &bytes[..n], budget, &mut cells[..count]);
 }
 
 // One case; false at the end of the input.
-fn case(bytes: &mut [u8]) -> bool {
+fn case(rt: &HostRuntime, bytes: &mut [u8]) -> bool {
+    let mut from = rt.stdin();
     let mut head = [0u8; 8];
-    if io::read_full(STDIN_FILENO, &mut head) < 8 {
+    if from.read_exact(&mut head).is_err() {
         return false;
     }
     let budget = two(head[0], head[1]) * 65536 + two(head[2], head[3]);
@@ -67,18 +68,18 @@ fn case(bytes: &mut [u8]) -> bool {
     if bytes.len() < length {
         return false;
     }
-    if io::read_full(STDIN_FILENO, &mut bytes[..length]) < length {
+    if from.read_exact(&mut bytes[..length]).is_err() {
         return false;
     }
-    with_cells(bytes, length, count, budget);
+    with_cells(rt, bytes, length, count, budget);
     true
 }
 
-fn main() {
-    let mut bytes = io::large_buffer();
+fn main(rt: HostRuntime) {
+    let mut bytes = [0u8; 65_536];
     let mut left: u32 = 65_536;
     while 0 < left {
-        if case(&mut bytes) {
+        if case(&rt, &mut bytes) {
             left -= 1;
         } else {
             left = 0;

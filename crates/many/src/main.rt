@@ -7,8 +7,9 @@ ghost use Rattle.std.specs.Prelude.{◌*◌, ◌<◌, ◌≤◌, length};
 ghost use Rattle.table.specs.Limits.{tasks_in_all};
 ghost use Rattle.told.specs.Cells.{cells_of_task};
 
-use libc::{STDIN_FILENO, STDOUT_FILENO};
+use itoa::Buffer;
 use row::Table;
+use std::io::{Print, Read};
 use sumpcandle::{Filled, TaskCells};
 
 // The number in two bytes.
@@ -56,17 +57,16 @@ fn number(line: &mut [u8], at: usize, x: u64) -> usize
     requires { at ≤ length line.old }
     ensures { result ≤ length line.new }
 {
-    let mut digits = [0u8; 20];
-    let count = io::decimal(x, &mut digits);
+    let mut digits = Buffer::new();
     let from = add(line, at, 32);
-    word(line, from, &digits[..count])
+    word(line, from, digits.format(x).as_bytes())
 }
 
-fn write(line: &mut [u8], at: usize)
+fn write(rt: &HostRuntime, line: &mut [u8], at: usize)
     requires { at ≤ length line.old }
 {
     let end = add(line, at, 10);
-    io::write_all(STDOUT_FILENO, &line[..end]);
+    let _ = rt.write_all(&line[..end]);
 }
 
 fn cells_of(tasks: usize) -> usize
@@ -79,23 +79,24 @@ fn cells_of(tasks: usize) -> usize
     }
 }
 
-fn accepted(line: &mut [u8], cells: &[u32; sumpcandle::CELLS], tasks: usize) {
+fn accepted(rt: &HostRuntime, line: &mut [u8], cells: &[u32; sumpcandle::CELLS], tasks: usize) {
     let mut at = word(line, 0, b"accepted");
     for k in 0..cells_of(tasks) {
         at = number(line, at, wide(cells[k]));
     }
-    write(line, at);
+    write(rt, line, at);
 }
 
-fn refused(line: &mut [u8], told: Filled) {
+fn refused(rt: &HostRuntime, line: &mut [u8], told: Filled) {
     let start = word(line, 0, b"refused");
     let middle = number(line, start, wide(told.number()));
     let end = number(line, middle, told.place() as u64);
-    write(line, end);
+    write(rt, line, end);
 }
 
 // Answers the first n bytes.
 fn answer(
+    rt: &HostRuntime,
     bytes: &[u8],
     n: usize,
     budget: u32,
@@ -108,15 +109,21 @@ fn answer(
     let image = &bytes[..n];
     let told = sumpcandle::cells(image, budget, cells);
     match told {
-        Filled::Done(tasks) => accepted(line, cells, tasks),
-        Filled::Refused(_, _) => refused(line, told),
+        Filled::Done(tasks) => accepted(rt, line, cells, tasks),
+        Filled::Refused(_, _) => refused(rt, line, told),
     }
 }
 
 // One case; false at the end of the input.
-fn case(image: &mut [u8], cells: &mut [u32; sumpcandle::CELLS], line: &mut [u8]) -> bool {
+fn case(
+    rt: &HostRuntime,
+    image: &mut [u8],
+    cells: &mut [u32; sumpcandle::CELLS],
+    line: &mut [u8],
+) -> bool {
+    let mut from = rt.stdin();
     let mut head = [0u8; 6];
-    if io::read_full(STDIN_FILENO, &mut head) < 6 {
+    if from.read_exact(&mut head).is_err() {
         return false;
     }
     let budget = two(head[0], head[1]) * 65536 + two(head[2], head[3]);
@@ -124,20 +131,20 @@ fn case(image: &mut [u8], cells: &mut [u32; sumpcandle::CELLS], line: &mut [u8])
     if image.len() < length {
         return false;
     }
-    if io::read_full(STDIN_FILENO, &mut image[..length]) < length {
+    if from.read_exact(&mut image[..length]).is_err() {
         return false;
     }
-    answer(image, length, budget, cells, line);
+    answer(rt, image, length, budget, cells, line);
     true
 }
 
-fn main() {
-    let mut image = io::large_buffer();
+fn main(rt: HostRuntime) {
+    let mut image = [0u8; 65_536];
     let mut cells = [0u32; sumpcandle::CELLS];
     let mut line = [0u8; LINE];
     let mut left: u32 = 4_000_000_000;
     while 0 < left {
-        if case(&mut image, &mut cells, &mut line) {
+        if case(&rt, &mut image, &mut cells, &mut line) {
             left -= 1;
         } else {
             left = 0;
