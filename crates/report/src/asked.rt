@@ -3,6 +3,11 @@
 // PIECE is page, a whole page of one table; entry, one of several tables, its line of the summary first; top, middle or bottom, what stands
 // around these. VERDICT, NAMES and AGAINST are that word where a verdict is asked for, where names stand on descriptor 4, and where the
 // image to compare with stands on descriptor 5; else anything. KEY is a number that tells tables of one page apart, NAME and OLD are what is shown.
+
+ghost use Rattle.input.specs.Input.{IsPrefixLen};
+
+use std::env::Env;
+
 #[derive(Clone, Copy)]
 pub(crate) struct Asked {
     pub(crate) entry: bool,
@@ -28,13 +33,22 @@ fn same(text: &[u8], word: &[u8]) -> bool {
     true
 }
 
-pub(crate) fn is_word(i: usize, word: &[u8]) -> bool {
-    let mut text = [0u8; 16];
-    let n = os::arg(i, &mut text);
-    if os::errno() != 0 {
-        return false;
+// An argument: how many bytes it has, and 0 where there is none of that number or it is longer than the buffer.
+pub(crate) fn argument(rt: &HostRuntime, i: usize, text: &mut [u8]) -> usize
+    ensures { IsPrefixLen result text.new }
+{
+    match rt.arg(i, text) {
+        Ok(n) => n,
+        Err(_) => 0,
     }
-    same(&text[..n], word)
+}
+
+pub(crate) fn is_word(rt: &HostRuntime, i: usize, word: &[u8]) -> bool {
+    let mut text = [0u8; 16];
+    match rt.arg(i, &mut text) {
+        Ok(n) => same(&text[..n], word),
+        Err(_) => false,
+    }
 }
 
 // The number that some digits say, its last nine where there are more.
@@ -48,17 +62,17 @@ fn value(text: &[u8]) -> u64 {
     n
 }
 
-pub(crate) fn number(i: usize) -> u64 {
+pub(crate) fn number(rt: &HostRuntime, i: usize) -> u64 {
     let mut text = [0u8; 16];
-    let n = os::arg(i, &mut text);
+    let n = argument(rt, i, &mut text);
     value(&text[..n])
 }
 
-pub(crate) fn of_words() -> Asked {
+pub(crate) fn of_words(rt: &HostRuntime) -> Asked {
     Asked {
-        entry: is_word(1, b"entry"),
-        verdict: is_word(2, b"verdict"),
-        names: is_word(3, b"names"),
-        against: is_word(4, b"against"),
+        entry: is_word(rt, 1, b"entry"),
+        verdict: is_word(rt, 2, b"verdict"),
+        names: is_word(rt, 3, b"names"),
+        against: is_word(rt, 4, b"against"),
     }
 }

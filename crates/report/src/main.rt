@@ -20,16 +20,17 @@ use compared::Old;
 use facts::Facts;
 use image::Reading;
 use input::Input;
-use libc::STDIN_FILENO;
-use output::{Verdict, Words};
+use output::{Out, Verdict, Words};
 use page::{Pen, SHEET};
 use refusals::{Answer, Refusal};
 use row::Table;
+use std::fs::File;
 use sumpcandle::TaskCells;
 
-const NAMES_FILENO: i32 = 4;
+// Descriptors 4 and 5.
+const NAMES_FILE: &str = "/dev/fd/4";
 
-const OLD_FILENO: i32 = 5;
+const OLD_FILE: &str = "/dev/fd/5";
 
 // Room for a name of 120 bytes for each task.
 const NAMES: usize = 16_384;
@@ -45,24 +46,29 @@ fn words(verdict: bool) -> Words {
     }
 }
 
-// How many bytes a descriptor gave, and whether it could be read.
+// How many bytes a file gave, and whether it could be read.
 #[derive(Clone, Copy)]
 struct Taken {
     fully: bool,
     n: usize,
 }
 
-// Nothing is read that is not wanted.
-fn take(wanted: bool, descriptor: i32, buffer: &mut [u8]) -> Taken
+// Nothing is read that is not wanted. Where it cannot be read, standard error says so.
+fn take(rt: &HostRuntime, wanted: bool, file: &str, what: &[u8], buffer: &mut [u8]) -> Taken
     ensures { IsPrefixLen result.n buffer.new }
 {
     if !wanted {
         return Taken { fully: true, n: 0 };
     }
-    match input::take_from(descriptor, buffer) {
-        Input::Bytes(n) => Taken { fully: true, n },
-        Input::Failed => Taken { fully: false, n: 0 },
-    }
+    let why = match File::open(rt, file) {
+        Ok(mut from) => match input::take_from(&mut from, buffer) {
+            Input::Bytes(n) => return Taken { fully: true, n },
+            Input::Failed(why) => why,
+        },
+        Err(why) => why,
+    };
+    output::failed(rt, b"report", what, why);
+    Taken { fully: false, n: 0 }
 }
 
 fn ended(sheet: &mut [u8; SHEET], pen: Pen, a: Asked) -> Pen {
@@ -84,6 +90,7 @@ fn verdict(cells: &[u32; sumpcandle::CELLS], tasks: usize) -> Verdict {
 }
 
 fn accepted(
+    rt: &HostRuntime,
     sheet: &mut [u8; SHEET],
     a: Asked,
     image: &[u8],
@@ -102,7 +109,11 @@ fn accepted(
     gather::every(image, table, tasks, &mut facts, &mut accounts, &mut cells);
     let was = compared::with(a.against, old, table, &mut facts);
     let open = top::open(&facts, tasks);
-    let pen = Pen { at: 0, whole: true };
+    let pen = Pen {
+        at: 0,
+        whole: true,
+        out: Out::new(rt.stdout()),
+    };
     let pen = if a.entry {
         top::line(sheet, pen, key, name, tasks, open)
     } else {
@@ -127,6 +138,8 @@ fn accepted(
     );
     let pen = ended(sheet, pen, a);
     output::end(
+        rt,
+        &pen.out,
         b"report",
         words(a.verdict),
         image,
@@ -136,6 +149,7 @@ fn accepted(
 }
 
 fn refuse(
+    rt: &HostRuntime,
     sheet: &mut [u8; SHEET],
     a: Asked,
     image: &[u8],
@@ -144,7 +158,11 @@ fn refuse(
     refusal: Refusal,
     at: usize,
 ) {
-    let pen = Pen { at: 0, whole: true };
+    let pen = Pen {
+        at: 0,
+        whole: true,
+        out: Out::new(rt.stdout()),
+    };
     let pen = if a.entry {
         top::line_refused(sheet, pen, key, name, refusal.number())
     } else {
@@ -155,6 +173,8 @@ fn refuse(
     let pen = refused::place(sheet, pen, image, refusal, at);
     let pen = ended(sheet, pen, a);
     output::end(
+        rt,
+        &pen.out,
         b"report",
         words(a.verdict),
         image,
@@ -165,6 +185,7 @@ fn refuse(
 
 // The table on standard input.
 fn table(
+    rt: &HostRuntime,
     sheet: &mut [u8; SHEET],
     a: Asked,
     image: &[u8],
@@ -177,8 +198,9 @@ fn table(
     let reading = image::read(image);
     let answer = reading.answer;
     match answer {
-        Answer::Refused(refusal, at) => refuse(sheet, a, image, key, name, refusal, at),
+        Answer::Refused(refusal, at) => refuse(rt, sheet, a, image, key, name, refusal, at),
         Answer::Accepted => accepted(
+            rt,
             sheet,
             a,
             image,
@@ -193,73 +215,99 @@ fn table(
 }
 
 // What stands around several tables.
-fn around(sheet: &mut [u8; SHEET], title: &[u8]) {
-    let pen = Pen { at: 0, whole: true };
-    let pen = if asked::is_word(1, b"top") {
+fn around(rt: &HostRuntime, sheet: &mut [u8; SHEET], title: &[u8]) {
+    let pen = Pen {
+        at: 0,
+        whole: true,
+        out: Out::new(rt.stdout()),
+    };
+    let pen = if asked::is_word(rt, 1, b"top") {
         top::several(sheet, pen, title)
-    } else if asked::is_word(1, b"middle") {
+    } else if asked::is_word(rt, 1, b"middle") {
         page::put(sheet, pen, b"</table>\n</header>\n")
     } else {
         page::put(sheet, pen, b"</body>\n</html>\n")
     };
     let pen = page::flush(&*sheet, pen);
-    output::end(b"report", words(false), b"", pen.whole, Verdict::Kept);
+    output::end(
+        rt,
+        &pen.out,
+        b"report",
+        words(false),
+        b"",
+        pen.whole,
+        Verdict::Kept,
+    );
 }
 
 // One step for each thing that is taken in, each with its own buffer.
 
-fn with_old(a: Asked, image: &[u8], names: &[u8], key: u64, name: &[u8], old: &[u8]) {
+fn with_old(
+    rt: &HostRuntime,
+    a: Asked,
+    image: &[u8],
+    names: &[u8],
+    key: u64,
+    name: &[u8],
+    old: &[u8],
+) {
     let mut sheet = [0u8; SHEET];
     let mut old_name = [0u8; asked::MOST];
-    let n = os::arg(7, &mut old_name);
-    table(&mut sheet, a, image, names, old, key, name, &old_name[..n]);
+    let n = asked::argument(rt, 7, &mut old_name);
+    table(
+        rt,
+        &mut sheet,
+        a,
+        image,
+        names,
+        old,
+        key,
+        name,
+        &old_name[..n],
+    );
 }
 
-fn with_names(a: Asked, image: &[u8], names: &[u8], key: u64, name: &[u8]) {
+fn with_names(rt: &HostRuntime, a: Asked, image: &[u8], names: &[u8], key: u64, name: &[u8]) {
     let mut old = [0u8; input::BUFFER];
-    let t = take(a.against, OLD_FILENO, &mut old);
+    let what = b": the table to compare with cannot be read";
+    let t = take(rt, a.against, OLD_FILE, what, &mut old);
     let n = t.n;
     if t.fully {
-        with_old(a, image, names, key, name, &old[..n]);
-        return;
+        with_old(rt, a, image, names, key, name, &old[..n]);
     }
-    os::fail(b"report: the table to compare with cannot be read");
 }
 
-fn with_image(a: Asked, image: &[u8], key: u64, name: &[u8]) {
+fn with_image(rt: &HostRuntime, a: Asked, image: &[u8], key: u64, name: &[u8]) {
     let mut names = [0u8; NAMES];
-    let t = take(a.names, NAMES_FILENO, &mut names);
+    let what = b": the names cannot be read";
+    let t = take(rt, a.names, NAMES_FILE, what, &mut names);
     let n = t.n;
     if t.fully {
-        with_names(a, image, &names[..n], key, name);
-        return;
+        with_names(rt, a, image, &names[..n], key, name);
     }
-    os::fail(b"report: the names cannot be read");
 }
 
-fn with_key(a: Asked, key: u64, name: &[u8]) {
+fn with_key(rt: &HostRuntime, a: Asked, key: u64, name: &[u8]) {
     let mut image = [0u8; input::BUFFER];
-    let t = take(true, STDIN_FILENO, &mut image);
-    let n = t.n;
-    if t.fully {
-        with_image(a, &image[..n], key, name);
-        return;
+    let mut from = rt.stdin();
+    match input::take_in(&mut from, &mut image) {
+        Input::Bytes(n) => with_image(rt, a, &image[..n], key, name),
+        Input::Failed(why) => output::failed(rt, b"report", b": the input cannot be read", why),
     }
-    os::fail(b"report: the input cannot be read");
 }
 
-fn with_name(a: Asked, name: &[u8]) {
-    let whole_page = asked::is_word(1, b"page");
+fn with_name(rt: &HostRuntime, a: Asked, name: &[u8]) {
+    let whole_page = asked::is_word(rt, 1, b"page");
     if whole_page | a.entry {
-        with_key(a, asked::number(5), name);
+        with_key(rt, a, asked::number(rt, 5), name);
         return;
     }
     let mut sheet = [0u8; SHEET];
-    around(&mut sheet, name);
+    around(rt, &mut sheet, name);
 }
 
-fn main() {
+fn main(rt: HostRuntime) {
     let mut name = [0u8; asked::MOST];
-    let n = os::arg(6, &mut name);
-    with_name(asked::of_words(), &name[..n]);
+    let n = asked::argument(&rt, 6, &mut name);
+    with_name(&rt, asked::of_words(&rt), &name[..n]);
 }

@@ -100,8 +100,9 @@ pub(crate) fn place(
         b"</dl>\n<p class='verdict open'>&#9650; The table is refused: nothing is known of its tasks.</p>\n<p>",
     );
     let pen = page::flush(&*sheet, pen);
-    let whole = output::refused(pen.whole, image, refusal, at);
-    let pen = page::put(sheet, Pen { at: 0, whole }, b"</p>\n");
+    let mut out = pen.out;
+    let whole = output::refused(&mut out, pen.whole, image, refusal, at);
+    let pen = page::put(sheet, Pen { at: 0, whole, out }, b"</p>\n");
     let byte = at / 8;
     let pen = around(sheet, pen, image, byte);
     if byte < image.len() {
