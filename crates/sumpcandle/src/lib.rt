@@ -31,16 +31,14 @@ pub fn cells(image: &[u8], budget: u32, cells: &mut [u32]) -> Filled
 }
 
 // For the emulator's C host: code × 2^32 + bound of one task; for 1 to 11, 13 and 14 that number × 2^32 + its place.
-#[unsafe(no_mangle)]
-pub extern "C" fn sumpcandle_response(image: &[u8], task: u32, budget: u32) -> u64
+pub fn sumpcandle_response(image: &[u8], task: u32, budget: u32) -> u64
     ensures { Responds image.now task budget result }
 {
     answers::response(image, task, budget)
 }
 
 // And the cells of every task, with who gave its bound. The result is 0; for 1 to 12 and 14 that number × 2^32 + its place.
-#[unsafe(no_mangle)]
-pub extern "C" fn sumpcandle_cells(image: &[u8], budget: u32, cells: &mut [u32]) -> u64
+pub fn sumpcandle_cells(image: &[u8], budget: u32, cells: &mut [u32]) -> u64
     ensures { TellsFilled image.now budget cells.old cells.new result }
 {
     asked::tell_cells(image, budget, cells)
@@ -48,8 +46,7 @@ pub extern "C" fn sumpcandle_cells(image: &[u8], budget: u32, cells: &mut [u32])
 
 // For an editor in C: the table of an image into the cells, which stay as they were where the image is refused. The result is
 // number × 2^32 + place, 0 where the image is accepted.
-#[unsafe(no_mangle)]
-pub extern "C" fn sumpcandle_read(image: &[u8], cells: &mut [u32; Table::CELLS]) -> u64
+pub fn sumpcandle_read(image: &[u8], cells: &mut [u32; Table::CELLS]) -> u64
     ensures { Takes image.now cells.old cells.new result }
 {
     editor::read(image, cells)
@@ -57,8 +54,7 @@ pub extern "C" fn sumpcandle_read(image: &[u8], cells: &mut [u32; Table::CELLS])
 
 // And the table in the cells, whatever numbers they hold, as an image into the buffer, which stays as it was where the table or the
 // room is refused. The result is the image's length; for 2 to 9, 14, 29 and 30 that number × 2^32 + its place.
-#[unsafe(no_mangle)]
-pub extern "C" fn sumpcandle_write(cells: &[u32; Table::CELLS], buffer: &mut [u8]) -> u64
+pub fn sumpcandle_write(cells: &[u32; Table::CELLS], buffer: &mut [u8]) -> u64
     ensures { Gives (table_of cells.now) buffer.old buffer.new result }
 {
     editor::write(cells, buffer)
@@ -67,8 +63,7 @@ pub extern "C" fn sumpcandle_write(cells: &[u32; Table::CELLS], buffer: &mut [u8
 // For the emulator's C host, who pushed one task: what its bound is made of, into the cells. The result is the place of the answer's case,
 // `Made::GIVEN` or `Made::NO_BOUND`; for 1 to 11, 13 and 14 that number × 2^32 + its place. But where they are given, the cells stay as they
 // were.
-#[unsafe(no_mangle)]
-pub extern "C" fn sumpcandle_parts(
+pub fn sumpcandle_parts(
     image: &[u8],
     task: u32,
     budget: u32,
@@ -81,8 +76,7 @@ pub extern "C" fn sumpcandle_parts(
 
 // The part of one transaction in that bound: what it imposes until the completion, with the mode and the candidate. The result is the
 // case of `Part`, in the same way.
-#[unsafe(no_mangle)]
-pub extern "C" fn sumpcandle_part(
+pub fn sumpcandle_part(
     image: &[u8],
     task: u32,
     budget: u32,
@@ -95,8 +89,7 @@ pub extern "C" fn sumpcandle_part(
 }
 
 // And its greatest charge by any t: what it imposes where `whole` is 0, else what it releases. There `Part::NO_BOUND` is never given.
-#[unsafe(no_mangle)]
-pub extern "C" fn sumpcandle_charge(
+pub fn sumpcandle_charge(
     image: &[u8],
     task: u32,
     transaction: u32,
@@ -111,8 +104,7 @@ pub extern "C" fn sumpcandle_charge(
 
 // The plain jitter analysis of one task: its response in ticks. The result is that; for 1 to 11, 13, 14, 31 and 32 that number × 2^32 + its
 // place.
-#[unsafe(no_mangle)]
-pub extern "C" fn sumpcandle_plain(image: &[u8], task: u32) -> u64
+pub fn sumpcandle_plain(image: &[u8], task: u32) -> u64
     ensures { TellsResponse image.now task result }
 {
     beside::tell_plain(image, task)
@@ -120,14 +112,7 @@ pub extern "C" fn sumpcandle_plain(image: &[u8], task: u32) -> u64
 
 // And the linear approximation of what it requests by t, exact up to k − 1 periods, in T-ths of a tick, into the cell. The result is 0; for 1
 // to 11, 13, 14, 31 and 33 that number × 2^32 + its place, and then the cell stays as it was.
-#[unsafe(no_mangle)]
-pub extern "C" fn sumpcandle_approximate(
-    image: &[u8],
-    task: u32,
-    k: u32,
-    t: u32,
-    cell: &mut [u64; 1],
-) -> u64
+pub fn sumpcandle_approximate(image: &[u8], task: u32, k: u32, t: u32, cell: &mut [u64; 1]) -> u64
     ensures { TellsApproximation image.now task k t cell.old cell.new result }
 {
     beside::tell_approximate(image, task, k, t, cell)
