@@ -2,20 +2,19 @@
 // from outside. It prints and decides nothing: every number of a task is the library's.
 #![tactic(auto)]
 
-mod asked;
 mod bars;
 mod busy;
 mod compared;
 mod facts;
 mod gather;
 mod refused;
+mod request;
 mod style;
 mod tasks;
 mod top;
 
 ghost use Rattle.input.specs.Input.{IsPrefixLen};
 
-use asked::Asked;
 use compared::Old;
 use facts::Facts;
 use image::Reading;
@@ -23,6 +22,7 @@ use input::Input;
 use output::{Out, Verdict, Words};
 use page::{Pen, SHEET};
 use refusals::{Answer, Refusal};
+use request::Asked;
 use row::Table;
 use std::fs::File;
 use sumpcandle::TaskCells;
@@ -221,9 +221,9 @@ fn around(rt: &HostRuntime, sheet: &mut [u8; SHEET], title: &[u8]) {
         whole: true,
         out: Out::new(rt.stdout()),
     };
-    let pen = if asked::is_word(rt, 1, b"top") {
+    let pen = if request::is_word(rt, 1, b"top") {
         top::several(sheet, pen, title)
-    } else if asked::is_word(rt, 1, b"middle") {
+    } else if request::is_word(rt, 1, b"middle") {
         page::put(sheet, pen, b"</table>\n</header>\n")
     } else {
         page::put(sheet, pen, b"</body>\n</html>\n")
@@ -252,8 +252,8 @@ fn with_old(
     old: &[u8],
 ) {
     let mut sheet = [0u8; SHEET];
-    let mut old_name = [0u8; asked::MOST];
-    let n = asked::argument(rt, 7, &mut old_name);
+    let mut old_name = [0u8; request::MOST];
+    let n = request::argument(rt, 7, &mut old_name);
     table(
         rt,
         &mut sheet,
@@ -297,9 +297,9 @@ fn with_key(rt: &HostRuntime, a: Asked, key: u64, name: &[u8]) {
 }
 
 fn with_name(rt: &HostRuntime, a: Asked, name: &[u8]) {
-    let whole_page = asked::is_word(rt, 1, b"page");
+    let whole_page = request::is_word(rt, 1, b"page");
     if whole_page | a.entry {
-        with_key(rt, a, asked::number(rt, 5), name);
+        with_key(rt, a, request::number(rt, 5), name);
         return;
     }
     let mut sheet = [0u8; SHEET];
@@ -307,7 +307,7 @@ fn with_name(rt: &HostRuntime, a: Asked, name: &[u8]) {
 }
 
 fn main(rt: HostRuntime) {
-    let mut name = [0u8; asked::MOST];
-    let n = asked::argument(&rt, 6, &mut name);
-    with_name(&rt, asked::of_words(&rt), &name[..n]);
+    let mut name = [0u8; request::MOST];
+    let n = request::argument(&rt, 6, &mut name);
+    with_name(&rt, request::of_words(&rt), &name[..n]);
 }

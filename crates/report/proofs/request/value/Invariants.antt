@@ -1,7 +1,7 @@
--- `report::asked::value` ends: each turn leaves less of the text.
+-- `report::request::value` ends: each turn leaves less of the text.
 use Prim.Native.Nat.{◌-◌, ◌≤◌}
 use lib.ListN.{length}
-use Rattle.report.proofs.asked.value.Given as goal
+use Rattle.report.proofs.request.value.Given as goal
 
 abbrev pub invariant-loop-i : goal.invariant-loop-i
 invariant-loop-i l = l.i ≤ length l.text
