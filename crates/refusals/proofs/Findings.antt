@@ -6,23 +6,22 @@ use native.Mathlib.Decide.{ℕ_discrete}
 use native.Mathlib.Numerals.{add-one}
 use native.Mathlib.Omega.{arith}
 use Rattle.refusals.specs.declared.Refusal.{Refusal}
-use Rattle.refusals.specs.declared.Answer.{Answer}
-use Rattle.refusals.specs.declared.Answer.TheVariants.{Accepted, Refused}
-use Rattle.refusals.specs.Answer.{is_accepted, ◌then◌, found_of, first_of, checked}
+use Rattle.std.specs.Prelude.{Ok, Err}
+use Rattle.refusals.specs.Answer.{Answer, accepted, refused, is_accepted, ◌then◌, found_of, first_of, checked}
 
 pub refused-then : (a b : Answer) → is_accepted a ≡ false → (a then b) ≡ a
 unfolding ◌then◌
-refused-then Accepted b h = cc
-refused-then (Refused r at) b h = refl
+refused-then (Ok x) b h = cc
+refused-then (Err f) b h = refl
 
-pub accepted-is : (a : Answer) → is_accepted a ≡ true → a ≡ Accepted
-accepted-is Accepted h = refl
-accepted-is (Refused r at) h = cc
+pub accepted-is : (a : Answer) → is_accepted a ≡ true → a ≡ accepted
+accepted-is (Ok x) h = refl
+accepted-is (Err f) h = cc
 
 -- what goes by an answer is, of one that is not accepted, what it is of every refusal
-pub refused-gives : {A : Type 0} (g : Answer → A) (x : A) → ((r : Refusal) (at : ℕ) → g (Refused r at) ≡ x) → (a : Answer) → is_accepted a ≡ false → g a ≡ x
-refused-gives g x each Accepted h = let z : ◌≡◌ {A = ℕ} 0 1 = cc in absurd (omega arith)
-refused-gives g x each (Refused r at) h = each r at
+pub refused-gives : {A : Type 0} (g : Answer → A) (x : A) → ((r : Refusal) (at : ℕ) → g (refused r at) ≡ x) → (a : Answer) → is_accepted a ≡ false → g a ≡ x
+refused-gives g x each (Ok y) h = let z : ◌≡◌ {A = ℕ} 0 1 = cc in absurd (omega arith)
+refused-gives g x each (Err f) h = each f.refusal f.place
 
 -- the first k of n have a finding: it is that of all n
 pub found-stays : (n k : ℕ) (f : ℕ → Answer) → k ≤ n → is_accepted (first_of k f) ≡ false → first_of n f ≡ first_of k f
@@ -49,13 +48,13 @@ stop f n k a h so_far found = so_far ∙ sym (found-stays n k f h (ap is_accepte
 -- the order of findings is what counts, not how they are grouped
 pub then-assoc : (a b c : Answer) → (a then b then c) ≡ (a then (b then c))
 unfolding ◌then◌
-then-assoc Accepted b c = refl
-then-assoc (Refused r at) b c = refl
+then-assoc (Ok x) b c = refl
+then-assoc (Err f) b c = refl
 
-pub then-accepted : (a : Answer) → (a then Accepted) ≡ a
+pub then-accepted : (a : Answer) → (a then accepted) ≡ a
 unfolding ◌then◌
-then-accepted Accepted = refl
-then-accepted (Refused r at) = refl
+then-accepted (Ok x) = refl
+then-accepted (Err f) = refl
 
 -- a rule among findings, and three rules
 
@@ -69,49 +68,49 @@ three-rules a b c d e f = then-assoc (a then b then c then d) e f ∙ ap (λ (x 
 
 -- a way to join two findings that makes none and loses none
 pub record Joins (join : Answer → Answer → Answer) : Type 0 where
-  pub none : {a b : Answer} → a ≡ Accepted → b ≡ Accepted → join a b ≡ Accepted
-  pub first : (a b : Answer) → join a b ≡ Accepted → a ≡ Accepted
-  pub second : (a b : Answer) → join a b ≡ Accepted → b ≡ Accepted
+  pub none : {a b : Answer} → a ≡ accepted → b ≡ accepted → join a b ≡ accepted
+  pub first : (a b : Answer) → join a b ≡ accepted → a ≡ accepted
+  pub second : (a b : Answer) → join a b ≡ accepted → b ≡ accepted
 
-pub none_first : (a b : Answer) → (a then b) ≡ Accepted → a ≡ Accepted
+pub none_first : (a b : Answer) → (a then b) ≡ accepted → a ≡ accepted
 unfolding ◌then◌
-none_first Accepted b h = refl
-none_first (Refused r at) b h = h
+none_first (Ok x) b h = refl
+none_first (Err f) b h = h
 
-pub none-second : (a b : Answer) → (a then b) ≡ Accepted → b ≡ Accepted
+pub none-second : (a b : Answer) → (a then b) ≡ accepted → b ≡ accepted
 unfolding ◌then◌
-none-second Accepted b h = h
-none-second (Refused r at) b h = cc
+none-second (Ok x) b h = h
+none-second (Err f) b h = cc
 
-none_then : (a b : Answer) → a ≡ Accepted → b ≡ Accepted → (a then b) ≡ Accepted
+none_then : (a b : Answer) → a ≡ accepted → b ≡ accepted → (a then b) ≡ accepted
 unfolding ◌then◌
-none_then Accepted b e f = f
-none_then (Refused r at) b e f = e
+none_then (Ok x) b e f = f
+none_then (Err g) b e f = e
 
 pub then-joins : Joins ◌then◌
 then-joins = record { none = λ {a} {b} e f. none_then a b e f; first = none_first; second = none-second }
 
 module _ {join : Answer → Answer → Answer} (joins : Joins join) where
-  pub none_of : (n : ℕ) (f : ℕ → Answer) → found_of join n f ≡ Accepted → (k : ℕ) → k < n → f k ≡ Accepted
+  pub none_of : (n : ℕ) (f : ℕ → Answer) → found_of join n f ≡ accepted → (k : ℕ) → k < n → f k ≡ accepted
   unfolding found_of
   none_of zero f h k below = absurd (omega arith)
   none_of (suc n) f h k below = go (ℕ_discrete k n) (none_of n f (joins.first _ _ h) k)
     where
-      go : Dec (k ≡ n) → (k < n → f k ≡ Accepted) → f k ≡ Accepted
+      go : Dec (k ≡ n) → (k < n → f k ≡ accepted) → f k ≡ accepted
       go (yes e) earlier = ap f e ∙ joins.second _ _ h
       go (no ne) earlier = earlier (omega arith)
 
-  pub none-in-all : (n : ℕ) (f : ℕ → Answer) → ((k : ℕ) → k < n → f k ≡ Accepted) → found_of join n f ≡ Accepted
+  pub none-in-all : (n : ℕ) (f : ℕ → Answer) → ((k : ℕ) → k < n → f k ≡ accepted) → found_of join n f ≡ accepted
   unfolding found_of
   none-in-all zero f each = refl
   none-in-all (suc n) f each = joins.none (none-in-all n f (λ k h. each k (omega arith))) (each n (omega arith))
 
-pub held : (t : Bool) (r : Refusal) (at : ℕ) → checked t r at ≡ Accepted → t ≡ true
+pub held : (t : Bool) (r : Refusal) (at : ℕ) → checked t r at ≡ accepted → t ≡ true
 unfolding checked
 held true r at h = refl
 held false r at h = cc
 
-pub holds : {t : Bool} (r : Refusal) (at : ℕ) → t ≡ true → checked t r at ≡ Accepted
+pub holds : {t : Bool} (r : Refusal) (at : ℕ) → t ≡ true → checked t r at ≡ accepted
 unfolding checked
 holds r at h = rw h
 
@@ -128,12 +127,12 @@ both_hold h k = rw (h, k)
 
 -- ---- a later finding is given only where those before it held, so it has to be the same only there
 
-pub then_same : (a : Answer) {b c : Answer} → (a ≡ Accepted → b ≡ c) → (a then b) ≡ (a then c)
+pub then_same : (a : Answer) {b c : Answer} → (a ≡ accepted → b ≡ c) → (a then b) ≡ (a then c)
 unfolding ◌then◌
-then_same Accepted h = h refl
-then_same (Refused r at) h = refl
+then_same (Ok x) h = h refl
+then_same (Err f) h = refl
 
-pub first-same : (n : ℕ) (f g : ℕ → Answer) → ((k : ℕ) → k < n → first_of k f ≡ Accepted → f k ≡ g k) → first_of n f ≡ first_of n g
+pub first-same : (n : ℕ) (f g : ℕ → Answer) → ((k : ℕ) → k < n → first_of k f ≡ accepted → f k ≡ g k) → first_of n f ≡ first_of n g
 unfolding first_of found_of
 first-same zero f g h = refl
 first-same (suc n) f g h =
@@ -145,8 +144,8 @@ first-same (suc n) f g h =
 
 module _ (P : Refusal → ℕ → Type 0) where
   abbrev pub Only : Answer → Type 0
-  Only Accepted = Unit
-  Only (Refused refusal at) = P refusal at
+  Only (Ok x) = Unit
+  Only (Err f) = P f.refusal f.place
 
   pub only-checked : (t : Bool) (refusal : Refusal) (at : ℕ) → P refusal at → Only (checked t refusal at)
   unfolding checked
@@ -159,12 +158,12 @@ module _ (P : Refusal → ℕ → Type 0) where
   only-failed true refusal at h = tt
   only-failed false refusal at h = h refl
 
-  pub only_then : (a b : Answer) → Only a → (a ≡ Accepted → Only b) → Only (a then b)
+  pub only_then : (a b : Answer) → Only a → (a ≡ accepted → Only b) → Only (a then b)
   unfolding ◌then◌
-  only_then Accepted b h k = k refl
-  only_then (Refused refusal at) b h k = h
+  only_then (Ok x) b h k = k refl
+  only_then (Err f) b h k = h
 
-  pub only-first : (n : ℕ) (f : ℕ → Answer) → ((k : ℕ) → k < n → first_of k f ≡ Accepted → Only (f k)) → Only (first_of n f)
+  pub only-first : (n : ℕ) (f : ℕ → Answer) → ((k : ℕ) → k < n → first_of k f ≡ accepted → Only (f k)) → Only (first_of n f)
   unfolding first_of
   only-first zero f each = tt
   only-first (suc n) f each =
@@ -178,10 +177,10 @@ module _ (Of : Refusal → Type 0) where
   abbrev pub Stays : (a b : Answer) → Type 0
   Stays a b = Only (λ refusal at. ¬ Of refusal) a → b ≡ a
 
-  pub stays-accepted : {a b : Answer} → Stays a b → a ≡ Accepted → b ≡ Accepted
+  pub stays-accepted : {a b : Answer} → Stays a b → a ≡ accepted → b ≡ accepted
   stays-accepted stays ok = stays (rw ok tt) ∙ ok
 
-  pub stays-refused : {a b : Answer} → Stays a b → {refusal : Refusal} {at : ℕ} → a ≡ Refused refusal at → ¬ Of refusal → b ≡ Refused refusal at
+  pub stays-refused : {a b : Answer} → Stays a b → {refusal : Refusal} {at : ℕ} → a ≡ refused refusal at → ¬ Of refusal → b ≡ refused refusal at
   stays-refused stays found other = stays (rw found other) ∙ found
 
   pub stays-checked : (s : Bool) {t : Bool} (refusal : Refusal) (at : ℕ) → Of refusal → (s ≡ true → t ≡ true) → Stays (checked s refusal at) (checked t refusal at)
@@ -191,8 +190,8 @@ module _ (Of : Refusal → Type 0) where
 
   pub stays_then : (a : Answer) {a' b b' : Answer} → Stays a a' → Stays b b' → Stays (a then b) (a' then b')
   unfolding ◌then◌
-  stays_then Accepted first second stays = rw (first tt) (second stays)
-  stays_then (Refused refusal at) first second stays = rw (first stays)
+  stays_then (Ok x) first second stays = rw (first tt) (second stays)
+  stays_then (Err f) first second stays = rw (first stays)
 
   pub stays-first : (n : ℕ) (f g : ℕ → Answer) → ((k : ℕ) → Stays (f k) (g k)) → Stays (first_of n f) (first_of n g)
   unfolding first_of found_of

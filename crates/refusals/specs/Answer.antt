@@ -1,11 +1,10 @@
 -- What is said of an image: document 01's number and place for each answer, and which of several findings is given.
-use Rattle.std.specs.Prelude.{Bool, true, false, ℕ, zero, suc}
+use Rattle.std.specs.Prelude.{Bool, true, false, ℕ, zero, suc, Option, Some, None, Result, Ok, Err, is_ok, ⊤}
 use Rattle.refusals.specs.declared.Refusal.{Refusal}
 use Rattle.refusals.specs.declared.Refusal.TheVariants.{EndsInside, EditionUnknown, FrameZero, TransactionCount, PeriodUnfit, ModeCount, TaskCount, DeadlineZero, NeverRuns, PaddingSet, BytesFollow, NoRoom, NoTask, DeadlineShort, TooLarge, BufferShort}
 use Rattle.refusals.specs.declared.PlainRefusal.{PlainRefusal}
 use Rattle.refusals.specs.declared.PlainRefusal.TheVariants.{NotSingle, NoCompletion, OutOfRange}
-use Rattle.refusals.specs.declared.Answer.{Answer}
-use Rattle.refusals.specs.declared.Answer.TheVariants.{Accepted, Refused}
+use Rattle.refusals.specs.declared.Fault.{Fault}
 
 infixl 20 ◌then◌
 abbrev pub refusal_number : Refusal → ℕ
@@ -32,26 +31,53 @@ plain_number NotSingle = 31
 plain_number NoCompletion = 32
 plain_number OutOfRange = 33
 
+-- accepted, or refused with a fault
+abbrev pub Answer : Type 0
+Answer = Result ⊤ Fault
+
+abbrev pub accepted : Answer
+accepted = Ok tt
+
+abbrev pub fault_at : Refusal → ℕ → Fault
+fault_at refusal at = record { refusal = refusal; place = at }
+
+abbrev pub refused : {A : Type 0} → Refusal → ℕ → Result A Fault
+refused refusal at = Err (fault_at refusal at)
+
+-- of anything that may be refused: document 01's number
+abbrev pub number_of : {A : Type 0} → Result A Fault → ℕ
+number_of (Ok x) = 0
+number_of (Err f) = refusal_number f.refusal
+
+-- and its place, or what the case of a value that is not refused is
+abbrev pub place_of : {A : Type 0} → (A → ℕ) → Result A Fault → ℕ
+place_of case_of (Ok x) = case_of x
+place_of case_of (Err f) = f.place
+
+abbrev pub nothing_more : ⊤ → ℕ
+nothing_more x = 0
+
+abbrev pub option_case : {A : Type 0} → Option A → ℕ
+option_case (Some x) = 0
+option_case None = 1
+
 abbrev pub answer_number : Answer → ℕ
-answer_number Accepted = 0
-answer_number (Refused refusal at) = refusal_number refusal
+answer_number a = number_of a
 
 abbrev pub answer_place : Answer → ℕ
-answer_place Accepted = 0
-answer_place (Refused refusal at) = at
+answer_place a = place_of nothing_more a
 
 abbrev pub is_accepted : Answer → Bool
-is_accepted Accepted = true
-is_accepted (Refused refusal at) = false
+is_accepted a = is_ok a
 
 -- the first of two findings
 unfoldable pub ◌then◌ : Answer → Answer → Answer
-Accepted then b = b
-Refused refusal at then b = Refused refusal at
+Ok x then b = b
+Err f then b = Err f
 
 -- n findings, joined in order
 unfoldable pub found_of : (join : Answer → Answer → Answer) → ℕ → (ℕ → Answer) → Answer
-found_of join zero f = Accepted
+found_of join zero f = accepted
 found_of join (suc n) f = join (found_of join n f) (f n)
 
 -- the first of n findings
@@ -61,5 +87,5 @@ first_of n f = found_of ◌then◌ n f
 
 -- a field's check: a refusal at its place where the check does not hold
 unfoldable pub checked : Bool → Refusal → ℕ → Answer
-checked true refusal at = Accepted
-checked false refusal at = Refused refusal at
+checked true refusal at = accepted
+checked false refusal at = refused refusal at

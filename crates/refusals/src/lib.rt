@@ -2,129 +2,134 @@
 // caller may get stands here once; it knows nothing of what is refused.
 #![tactic(auto)]
 
-ghost use Rattle.std.specs.Prelude.{◌≡◌};
-ghost use Rattle.refusals.specs.Answer.{refusal_number, plain_number, answer_number, answer_place, is_accepted, ◌then◌, checked};
+ghost use Rattle.std.specs.Prelude.{◌≡◌, ℕ};
+ghost use Rattle.refusals.specs.Answer.{refusal_number, plain_number, number_of, place_of, nothing_more, checked, option_case};
 
-// Why an image, a table or a call is refused, in the order of the documents' numbers.
-#[derive(Clone, Copy)]
+// Why an image, a table or a call is refused, by the documents' numbers.
+#[derive(Clone, Copy, PartialEq, Eq)]
 pub enum Refusal {
-    EndsInside,
-    EditionUnknown,
-    FrameZero,
-    TransactionCount,
-    PeriodUnfit,
-    ModeCount,
-    TaskCount,
-    DeadlineZero,
-    NeverRuns,
-    PaddingSet,
-    BytesFollow,
-    NoRoom,
-    NoTask,
-    DeadlineShort,
-    TooLarge,
-    BufferShort,
-}
-
-// And why the plain analysis is, where the table is not.
-#[derive(Clone, Copy)]
-pub enum PlainRefusal {
-    NotSingle,
-    NoCompletion,
-    OutOfRange,
-}
-
-#[derive(Clone, Copy)]
-pub enum Answer {
-    Accepted,
-    Refused(Refusal, usize),
+    EndsInside = 1,
+    EditionUnknown = 2,
+    FrameZero = 3,
+    TransactionCount = 4,
+    PeriodUnfit = 5,
+    ModeCount = 6,
+    TaskCount = 7,
+    DeadlineZero = 8,
+    NeverRuns = 9,
+    PaddingSet = 10,
+    BytesFollow = 11,
+    NoRoom = 12,
+    NoTask = 13,
+    DeadlineShort = 14,
+    TooLarge = 29,
+    BufferShort = 30,
 }
 
 impl Refusal {
     pub fn number(self) -> u32
         ensures { result ≡ refusal_number self }
     {
-        match self {
-            Refusal::EndsInside => 1,
-            Refusal::EditionUnknown => 2,
-            Refusal::FrameZero => 3,
-            Refusal::TransactionCount => 4,
-            Refusal::PeriodUnfit => 5,
-            Refusal::ModeCount => 6,
-            Refusal::TaskCount => 7,
-            Refusal::DeadlineZero => 8,
-            Refusal::NeverRuns => 9,
-            Refusal::PaddingSet => 10,
-            Refusal::BytesFollow => 11,
-            Refusal::NoRoom => 12,
-            Refusal::NoTask => 13,
-            Refusal::DeadlineShort => 14,
-            Refusal::TooLarge => 29,
-            Refusal::BufferShort => 30,
-        }
+        self as u32
     }
+}
+
+// And why the plain analysis is, where the table is not.
+#[derive(Clone, Copy, PartialEq, Eq)]
+pub enum PlainRefusal {
+    NotSingle = 31,
+    NoCompletion = 32,
+    OutOfRange = 33,
 }
 
 impl PlainRefusal {
     pub fn number(self) -> u32
         ensures { result ≡ plain_number self }
     {
+        self as u32
+    }
+}
+
+// Document 01's refusal, and the bit position that it gives beside it.
+#[derive(Clone, Copy, PartialEq, Eq)]
+pub struct Fault {
+    pub refusal: Refusal,
+    pub place: usize,
+}
+
+pub type Answer = Result<(), Fault>;
+
+// What is said of one that is not refused, as a number in the refusal's place.
+pub trait Case {
+    ghost case_of: { Self → ℕ };
+
+    fn case(&self) -> usize
+        ensures { result ≡ case_of self.now };
+}
+
+impl Case for () {
+    ghost case_of = { nothing_more };
+
+    fn case(&self) -> usize {
+        0
+    }
+}
+
+// 1 where there is nothing to say.
+impl<T> Case for Option<T> {
+    ghost case_of = { option_case };
+
+    fn case(&self) -> usize {
         match self {
-            PlainRefusal::NotSingle => 31,
-            PlainRefusal::NoCompletion => 32,
-            PlainRefusal::OutOfRange => 33,
+            Some(_) => 0,
+            None => 1,
         }
     }
 }
 
-impl Answer {
-    // Document 01's number: 0 where the image is accepted.
-    pub fn number(self) -> u32
-        ensures { result ≡ answer_number self }
-    {
+// An answer in two numbers.
+pub trait Numbered {
+    ghost numbered: { Self → ℕ };
+
+    ghost placed: { Self → ℕ };
+
+    // Document 01's number: 0 where nothing is refused.
+    fn number(&self) -> u32
+        ensures { result ≡ numbered self.now };
+
+    // The bit position that document 01 gives beside the number, or the case of what is not refused.
+    fn place(&self) -> usize
+        ensures { result ≡ placed self.now };
+}
+
+impl<T: Case> Numbered for Result<T, Fault> {
+    ghost numbered = { number_of };
+
+    ghost placed = { place_of T.case_of };
+
+    fn number(&self) -> u32 {
         match self {
-            Answer::Accepted => 0,
-            Answer::Refused(refusal, _) => refusal.number(),
+            Ok(_) => 0,
+            Err(fault) => fault.refusal.number(),
         }
     }
 
-    // The bit position that document 01 gives beside the number: 0 where the image is accepted.
-    pub fn place(self) -> usize
-        ensures { result ≡ answer_place self }
-    {
+    fn place(&self) -> usize {
         match self {
-            Answer::Accepted => 0,
-            Answer::Refused(_, at) => at,
-        }
-    }
-
-    pub fn is_accepted(self) -> bool
-        ensures { result ≡ is_accepted self }
-    {
-        match self {
-            Answer::Accepted => true,
-            Answer::Refused(_, _) => false,
-        }
-    }
-
-    // The first of two findings.
-    pub fn then(self, next: Answer) -> Answer
-        ensures { result ≡ (self then next) }
-    {
-        match self {
-            Answer::Accepted => next,
-            Answer::Refused(_, _) => self,
+            Ok(value) => value.case(),
+            Err(fault) => fault.place,
         }
     }
 }
 
 // A field's check: a refusal at its place where the check does not hold.
+#[tactic(auto, unfolding(crate::specs::Answer::checked))]
 pub fn check(holds: bool, refusal: Refusal, at: usize) -> Answer
     ensures { result ≡ checked holds refusal at }
 {
     if holds {
-        Answer::Accepted
+        Ok(())
     } else {
-        Answer::Refused(refusal, at)
+        Err(Fault { refusal, place: at })
     }
 }
