@@ -10,9 +10,8 @@ use Rattle.table.specs.Limits.{limits, tasks_in_all, time_width}
 use Rattle.table.specs.Fields.{TaskField, width_in_header, width_in_head, width_in_task}
 use Rattle.table.specs.Rules.Deadlines.{keepable}
 use Rattle.table.proofs.Rules as rules
-use Rattle.refusals.specs.declared.Answer.TheVariants.{Accepted}
+use Rattle.refusals.specs.Answer.{accepted}
 use Rattle.refusals.proofs.Findings.{then-joins, none_first, none-second, held}
-use Rattle.format.specs.Cases
 use Rattle.format.specs.Places.{place_in_header, place_in_head, place_in_task, time_at, task_at, start, bytes_to}
 use Rattle.format.specs.Said.{frame_in, count_in, modes_in, tasks_in, tasks_before}
 use Rattle.format.specs.Fault.{look_at, image_look, header_fault, head_fault, end_fault, image_fault, IsAccepted}
@@ -29,10 +28,10 @@ SoundHead image before p = rules.SoundHead limits (frame_in image) before (look_
 abbrev pub SoundTask : List ℕ → (m q : ℕ) → Type 0
 SoundTask image m q = rules.SoundTask keepable m (look_at image (place_in_task q) width_in_task)
 
-pub sound-header : (image : List ℕ) → header_fault image ≡ Accepted → SoundHeader image
+pub sound-header : (image : List ℕ) → header_fault image ≡ accepted → SoundHeader image
 sound-header image h = rules.sound-header limits then-joins (look_at image place_in_header width_in_header) h
 
-pub sound-head : (image : List ℕ) (before p : ℕ) → head_fault image before p ≡ Accepted → SoundHead image before p
+pub sound-head : (image : List ℕ) (before p : ℕ) → head_fault image before p ≡ accepted → SoundHead image before p
 sound-head image before p h = rules.sound-head limits then-joins (frame_in image) before (look_at image (place_in_head p) width_in_head) h
 
 pub time-inside : (image : List ℕ) (m q k : ℕ) → SoundTask image m q → k < m → time_at q k + time_width ≤ 8 * length image
@@ -43,7 +42,7 @@ pub record SoundEnd (image : List ℕ) (p : ℕ) : Type 0 where
   pub padding : value_at image p (8 * bytes_to p - p) ≡ 0
   pub last : length image ≤ bytes_to p
 
-sound-end : (image : List ℕ) (p : ℕ) → end_fault image p ≡ Accepted → SoundEnd image p
+sound-end : (image : List ℕ) (p : ℕ) → end_fault image p ≡ accepted → SoundEnd image p
 unfolding end_fault
 sound-end image p h =
     record {

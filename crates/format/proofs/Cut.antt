@@ -9,10 +9,8 @@ use lib.ListN.{length, take}
 use lib.Dec.{eqb}
 use lib.Seq.{length-take-le, take_all, get_or-take}
 use borrow.Author.Tests.{le-leb, lt-leb}
-use Rattle.refusals.specs.declared.Answer.{Answer}
-use Rattle.refusals.specs.declared.Answer.TheVariants.{Accepted}
 use Rattle.refusals.specs.declared.Refusal.TheVariants.{EndsInside, PaddingSet, BytesFollow}
-use Rattle.refusals.specs.Answer.{◌then◌, found_of, first_of, checked}
+use Rattle.refusals.specs.Answer.{Answer, accepted, ◌then◌, found_of, first_of, checked}
 use Rattle.refusals.proofs.Findings.{then_same, first-same}
 use Rattle.bits.specs.Bits.{bit_at, value_at}
 use Rattle.table.specs.Sum.{sum, greatest}
@@ -187,7 +185,7 @@ module _ (image : List ℕ) (long : longest_image + 1 ≤ length image) where
       let each : first_of n (found image) ≡ first_of n (found cut) =
       first-same n (found image) (found cut)
       (λ u below so_far. sym (same-transaction u (omega arith) (sound-before image u so_far))) in
-      let last : first_of n (found image) ≡ Accepted → end_fault cut (start cut n) ≡ end_fault image (start image n) =
+      let last : first_of n (found image) ≡ accepted → end_fault cut (start cut n) ≡ end_fault image (start image n) =
       λ all.
       ap (end_fault cut) (same_start n few (sound-before image n all))
       ∙ same-close (start image n) (reach-most image n few (sound-before image n all)) in

@@ -4,7 +4,7 @@ use mathlib.Core.Path.{◌≡◌, refl}
 use mathlib.Core.List.{List}
 use Prim.Native.Nat.{ℕ}
 use Rattle.refusals.specs.declared.Refusal.{Refusal}
-use Rattle.refusals.specs.declared.Answer.TheVariants.{Accepted, Refused}
+use Rattle.refusals.specs.Answer.{accepted, refused}
 use Rattle.refusals.proofs.Findings.{then-joins, none_first, none-second, Stays, stays-accepted, stays-refused, stays_then}
 use Rattle.table.specs.Table.{Table}
 use Rattle.table.specs.Limits.{Limits, limits}
@@ -30,11 +30,11 @@ module _ (most : Limits) where
 
 module _ (image : List ℕ) where
   -- an image that is refused, but by 14, was refused with that number at that place
-  pub refused-before : {refusal : Refusal} {at : ℕ} → image_fault image ≡ Refused refusal at → ¬ IsShort refusal → fault_under limits any image ≡ Refused refusal at
+  pub refused-before : {refusal : Refusal} {at : ℕ} → image_fault image ≡ refused refusal at → ¬ IsShort refusal → fault_under limits any image ≡ refused refusal at
   unfolding image_fault
   refused-before = stays-refused IsShort (image-short limits image)
 
-  pub accepted-before : IsAccepted image → fault_under limits any image ≡ Accepted
+  pub accepted-before : IsAccepted image → fault_under limits any image ≡ accepted
   unfolding image_fault
   accepted-before = stays-accepted IsShort (image-short limits image)
 
@@ -42,12 +42,12 @@ module _ (image : List ℕ) where
   unfolding image_fault
   accepted-keepable ok = clear-keepable (reads image) limits (none_first _ _ ok)
 
-  pub keepable-accepted : fault_under limits any image ≡ Accepted → EachKeepable (table_in image) → IsAccepted image
+  pub keepable-accepted : fault_under limits any image ≡ accepted → EachKeepable (table_in image) → IsAccepted image
   unfolding image_fault
   keepable-accepted before kept = then-joins.none (keepable-clear (reads image) limits (none_first _ _ before) kept) (none-second _ _ before)
 
   -- so what document 01 accepted, under its own limits too, is accepted where every task keeps the rule
-  pub accepted-since : fault_under limits_before any image ≡ Accepted → EachKeepable (table_in image) → IsAccepted image
+  pub accepted-since : fault_under limits_before any image ≡ accepted → EachKeepable (table_in image) → IsAccepted image
   accepted-since before = keepable-accepted (accepted-still any image before)
 
 -- ---- a table that is to be written
@@ -56,18 +56,18 @@ module _ (tab : Table) where
   own-reads : Reads (table_look tab) tab
   own-reads = record { number = λ f has. refl }
 
-  pub unwritable-before : {refusal : Refusal} {at : ℕ} → table_fault tab ≡ Refused refusal at → ¬ IsShort refusal → table_fault_under limits any tab ≡ Refused refusal at
+  pub unwritable-before : {refusal : Refusal} {at : ℕ} → table_fault tab ≡ refused refusal at → ¬ IsShort refusal → table_fault_under limits any tab ≡ refused refusal at
   unfolding table_fault
   unwritable-before = stays-refused IsShort (table-short limits tab)
 
-  pub writable-before : table_fault tab ≡ Accepted → table_fault_under limits any tab ≡ Accepted
+  pub writable-before : table_fault tab ≡ accepted → table_fault_under limits any tab ≡ accepted
   unfolding table_fault
   writable-before = stays-accepted IsShort (table-short limits tab)
 
-  pub writable-keepable : table_fault tab ≡ Accepted → EachKeepable tab
+  pub writable-keepable : table_fault tab ≡ accepted → EachKeepable tab
   unfolding table_fault
   writable-keepable ok = clear-keepable own-reads limits ok
 
-  pub keepable-writable : table_fault_under limits any tab ≡ Accepted → EachKeepable tab → table_fault tab ≡ Accepted
+  pub keepable-writable : table_fault_under limits any tab ≡ accepted → EachKeepable tab → table_fault tab ≡ accepted
   unfolding table_fault
   keepable-writable before kept = keepable-clear own-reads limits before kept

@@ -6,7 +6,7 @@ use Prim.Native.Nat.{ℕ, ◌<◌}
 use lib.ListN.{length, get_or}
 use Rattle.bits.proofs.Fields.{value-below}
 use Rattle.refusals.proofs.Findings.{then-joins, none_first}
-use Rattle.table.specs.Table.{Task, IsTask, modes, tasks, task, offset, jitter, blocking, deadline, priority, time}
+use Rattle.table.specs.Table.{Task, IsTask, task, offset, jitter, blocking, deadline, priority, time}
 use Rattle.table.specs.Fields.{HeaderField, HeadField, TaskField, Field, width, number_in, IsField, Fits, Timed}
 use Rattle.table.specs.Kept.{Kept}
 use Rattle.table.proofs.Lists.{length-list_of, get_or-list_of}

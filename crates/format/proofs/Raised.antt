@@ -3,7 +3,7 @@ use mathlib.Core.Path.{◌≡◌, refl}
 use mathlib.Core.List.{List}
 use Prim.Native.Nat.{ℕ}
 use Rattle.refusals.specs.declared.Refusal.{Refusal}
-use Rattle.refusals.specs.declared.Answer.TheVariants.{Accepted, Refused}
+use Rattle.refusals.specs.Answer.{accepted, refused}
 use Rattle.refusals.proofs.Findings.{Stays, stays-accepted, stays-refused, stays_then}
 use Rattle.table.specs.Table.{Table}
 use Rattle.table.specs.Limits.{Limits, limits}
@@ -24,25 +24,25 @@ module _ {small large : Limits} (raised : Raises small large) where
 
 module _ (deadlines : Deadlines) where
   -- an image that was accepted is accepted
-  pub accepted-still : (image : List ℕ) → fault_under limits_before deadlines image ≡ Accepted → fault_under limits deadlines image ≡ Accepted
+  pub accepted-still : (image : List ℕ) → fault_under limits_before deadlines image ≡ accepted → fault_under limits deadlines image ≡ accepted
   accepted-still image = stays-accepted IsCount (image-stays raised-before deadlines image)
 
   -- one that was refused, but by 4 or 7, is refused with that number at that place
   pub refused-still :
       (image : List ℕ) {refusal : Refusal} {at : ℕ}
-      → fault_under limits_before deadlines image ≡ Refused refusal at
+      → fault_under limits_before deadlines image ≡ refused refusal at
       → ¬ IsCount refusal
-      → fault_under limits deadlines image ≡ Refused refusal at
+      → fault_under limits deadlines image ≡ refused refusal at
   refused-still image = stays-refused IsCount (image-stays raised-before deadlines image)
 
   -- the same of a table that is to be written
 
-  pub writable-still : (tab : Table) → table_fault_under limits_before deadlines tab ≡ Accepted → table_fault_under limits deadlines tab ≡ Accepted
+  pub writable-still : (tab : Table) → table_fault_under limits_before deadlines tab ≡ accepted → table_fault_under limits deadlines tab ≡ accepted
   writable-still tab = stays-accepted IsCount (table_stays raised-before deadlines tab)
 
   pub unwritable-still :
       (tab : Table) {refusal : Refusal} {at : ℕ}
-      → table_fault_under limits_before deadlines tab ≡ Refused refusal at
+      → table_fault_under limits_before deadlines tab ≡ refused refusal at
       → ¬ IsCount refusal
-      → table_fault_under limits deadlines tab ≡ Refused refusal at
+      → table_fault_under limits deadlines tab ≡ refused refusal at
   unwritable-still tab = stays-refused IsCount (table_stays raised-before deadlines tab)

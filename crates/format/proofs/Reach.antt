@@ -1,5 +1,6 @@
 -- How far an image reaches: the longest accepted one, and the furthest place of a refusal. Both go by the counts and the places
 -- of the fields alone, so they hold of any look whose fields follow one another as in an image.
+use Rattle.std.specs.Prelude.{Ok, Err}
 use mathlib.Core.Path.{◌≡◌, refl}
 use mathlib.Core.List.{List}
 use Prim.Native.Nat.{ℕ, zero, suc, ◌+◌, ◌*◌, ◌≤◌, ◌<◌}
@@ -13,9 +14,7 @@ use Rattle.table.specs.Rules.{Look, table_rules}
 use Rattle.table.specs.Rules.Deadlines.{keepable}
 use Rattle.table.proofs.Rules.{SoundTable, sound-table}
 use Rattle.refusals.specs.declared.Refusal.{Refusal}
-use Rattle.refusals.specs.declared.Answer.{Answer}
-use Rattle.refusals.specs.declared.Answer.TheVariants.{Accepted, Refused}
-use Rattle.refusals.specs.Answer.{answer_place, ◌then◌, first_of}
+use Rattle.refusals.specs.Answer.{Answer, accepted, answer_place, ◌then◌, first_of}
 use Rattle.refusals.proofs.Findings.{then-joins, Only, only-checked, only_then}
 use Rattle.format.specs.Places.{first_at, head_width, place_in_header, place_in_head, place_in_task, task_width, task_at, past, start, longest_image}
 use Rattle.format.specs.Said.{count_in, modes_in, tasks_in, tasks_before}
@@ -67,8 +66,8 @@ abbrev pub Within : Answer → Type 0
 Within = Only Near
 
 pub within-place : (a : Answer) → Within a → answer_place a ≤ most
-within-place Accepted h = omega arith
-within-place (Refused refusal at) h = h
+within-place (Ok x) h = omega arith
+within-place (Err f) h = h
 
 module _ {look : Look Field} {begin : ℕ → ℕ} (placed : Placed look begin) where
   abbrev Holds : ℕ → Type 0
@@ -141,7 +140,7 @@ module _ (image : List ℕ) where
 
   pub sound-before :
       (n : ℕ)
-      → first_of n (λ u. transaction_fault image (tasks_before image u) (start image u)) ≡ Accepted
+      → first_of n (λ u. transaction_fault image (tasks_before image u) (start image u)) ≡ accepted
       → (v : ℕ)
       → v < n
       → Sound v

@@ -8,9 +8,7 @@ use native.Mathlib.Decide.{ℕ_discrete}
 use native.Mathlib.Omega.{arith}
 use lib.Dec.{lit≤}
 use Rattle.refusals.specs.declared.Refusal.{Refusal}
-use Rattle.refusals.specs.declared.Answer.{Answer}
-use Rattle.refusals.specs.declared.Answer.TheVariants.{Accepted}
-use Rattle.refusals.specs.Answer.{refusal_number, ◌then◌, first_of}
+use Rattle.refusals.specs.Answer.{Answer, accepted, refusal_number, ◌then◌, first_of}
 use Rattle.refusals.proofs.Findings.{then-joins, none_first, none_of, Only, only-checked, only_then, only-first}
 use Rattle.table.specs.Sum.{sum}
 use Rattle.table.specs.Limits.{Limits}
@@ -63,7 +61,7 @@ module _ (limits : Limits) (look : Look Field) where
     abbrev found : ℕ → Answer
     found u = transaction_rules ◌then◌ limits deadlines major (before u) (part (Field.head u) look) (λ j. part (Field.task u j) look)
 
-    pub heads-hold : (n : ℕ) → first_of n found ≡ Accepted → (v : ℕ) → v < n → HeadHolds v
+    pub heads-hold : (n : ℕ) → first_of n found ≡ accepted → (v : ℕ) → v < n → HeadHolds v
     unfolding transaction_rules first_of
     heads-hold n clear v h =
         sound-head limits then-joins major (before v) (part (Field.head v) look) (none_first _ _ (none_of then-joins n _ clear v h))

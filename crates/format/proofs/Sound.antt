@@ -8,7 +8,7 @@ use lib.ListN.{length}
 use lib.Dec.{leb, lit≤}
 use borrow.Author.Tests.{le-leb, leb-true, eqb-true}
 use Rattle.bits.specs.Bits.{is_inside}
-use Rattle.refusals.specs.declared.Answer.TheVariants.{Accepted}
+use Rattle.refusals.specs.Answer.{accepted}
 use Rattle.refusals.proofs.Findings.{then-joins, holds, both_first, both-second}
 use Rattle.table.specs.Sum.{greatest}
 use Rattle.table.specs.Limits.{limits, modes_most, tasks_most, tasks_in_all}
@@ -24,7 +24,7 @@ use Rattle.format.specs.Cases.{last}
 use Rattle.format.specs.Fault.{ends_at, look_at, head_fault, task_fault}
 
 -- a part of what is whole
-within : (image : List ℕ) (p w q v : ℕ) → is_inside image p w ≡ true → q + v ≤ p + w → ends_at image q v ≡ Accepted
+within : (image : List ℕ) (p w q v : ℕ) → is_inside image p w ≡ true → q + v ≤ p + w → ends_at image q v ≡ accepted
 within image p w q v whole h = holds _ _ (le-leb (q + v) (8 * length image) (omega (arith, leb-true (p + w) (8 * length image) whole)))
 
 pub whole-task :
@@ -32,7 +32,7 @@ pub whole-task :
     → is_inside image q (task_width m) ≡ true
     → 1 ≤ greatest m (time_in image q)
     → offset_in image q + greatest m (time_in image q) ≤ deadline_in image q
-    → task_fault image m q ≡ Accepted
+    → task_fault image m q ≡ accepted
 whole-task image m q whole runs room =
     rules.clear-task keepable then-joins m (look_at image (place_in_task q) width_in_task)
     (record {
@@ -54,7 +54,7 @@ pub whole-head :
     (image : List ℕ) (before p : ℕ)
     → is_inside image p head_width ≡ true
     → (is_divisor (frame_in image) (period_in image p) && (is_between 1 modes_most (modes_in image p) && (is_between 1 tasks_most (tasks_in image p) && leb (before + tasks_in image p) tasks_in_all))) ≡ true
-    → head_fault image before p ≡ Accepted
+    → head_fault image before p ≡ accepted
 whole-head image before p whole keeps =
     let period = both_first (is_divisor (frame_in image) (period_in image p)) _ keeps in
     let counts = both-second (is_divisor (frame_in image) (period_in image p)) _ keeps in
@@ -80,10 +80,10 @@ whole-head image before p whole keeps =
 
 -- document 01's last image: its head and its one task
 
-last-head : head_fault last 0 34 ≡ Accepted
+last-head : head_fault last 0 34 ≡ accepted
 unfolding computing
 last-head = whole-head last 0 34 refl refl
 
-last-task : task_fault last 1 67 ≡ Accepted
+last-task : task_fault last 1 67 ≡ accepted
 unfolding computing
 last-task = whole-task last 1 67 refl (lit≤ tt) (lit≤ tt)

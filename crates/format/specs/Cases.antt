@@ -4,9 +4,8 @@ use Rattle.table.specs.Limits.{limits}
 use Rattle.table.specs.Raised.{limits_before}
 use Rattle.table.specs.Rules.Deadlines.{any, keepable}
 use Rattle.table.specs.Sample.{plain, lone}
-use Rattle.refusals.specs.declared.Answer.TheVariants.{Accepted, Refused}
 use Rattle.refusals.specs.declared.Refusal.TheVariants.{EndsInside, EditionUnknown, FrameZero, TransactionCount, PeriodUnfit, ModeCount, TaskCount, DeadlineZero, NeverRuns, PaddingSet, BytesFollow, DeadlineShort}
-use Rattle.refusals.specs.Answer.{answer_number}
+use Rattle.refusals.specs.Answer.{accepted, refused, answer_number}
 use Rattle.format.specs.Said.{table_in}
 use Rattle.format.specs.Fault.{head_fault, fault_under, image_fault}
 use Rattle.format.specs.Computing.{computing}
@@ -18,7 +17,7 @@ last =
     ++ replicate 11 0x00
     ++ (0x50 ∷ 0x28 ∷ 0x00 ∷ 0x00 ∷ 0x18 ∷ [])
 
-last-is-accepted : image_fault last ≡ Accepted
+last-is-accepted : image_fault last ≡ accepted
 unfolding computing
 last-is-accepted = refl
 
@@ -41,7 +40,7 @@ distinct-says :
 unfolding computing
 distinct-says = refl
 
-distinct-is-accepted : image_fault distinct ≡ Accepted
+distinct-is-accepted : image_fault distinct ≡ accepted
 unfolding computing
 distinct-is-accepted = refl
 
@@ -73,33 +72,33 @@ faulty =
 
 refusals :
     map image_fault faulty
-    ≡ Refused EndsInside 0
-    ∷ Refused EndsInside 4
-    ∷ Refused EndsInside 173
-    ∷ Refused EndsInside 173
-    ∷ Refused EditionUnknown 0
-    ∷ Refused FrameZero 4
-    ∷ Refused TransactionCount 28
-    ∷ Refused EndsInside 197
-    ∷ Refused PeriodUnfit 34
-    ∷ Refused PeriodUnfit 34
-    ∷ Refused ModeCount 58
-    ∷ Refused ModeCount 58
-    ∷ Refused TaskCount 62
-    ∷ Refused TaskCount 62
-    ∷ Refused DeadlineZero 139
-    ∷ Refused NeverRuns 173
-    ∷ Refused PaddingSet 197
-    ∷ Refused PaddingSet 197
-    ∷ Refused BytesFollow 200
-    ∷ Refused DeadlineShort 139
-    ∷ Refused DeadlineShort 139
+    ≡ refused EndsInside 0
+    ∷ refused EndsInside 4
+    ∷ refused EndsInside 173
+    ∷ refused EndsInside 173
+    ∷ refused EditionUnknown 0
+    ∷ refused FrameZero 4
+    ∷ refused TransactionCount 28
+    ∷ refused EndsInside 197
+    ∷ refused PeriodUnfit 34
+    ∷ refused PeriodUnfit 34
+    ∷ refused ModeCount 58
+    ∷ refused ModeCount 58
+    ∷ refused TaskCount 62
+    ∷ refused TaskCount 62
+    ∷ refused DeadlineZero 139
+    ∷ refused NeverRuns 173
+    ∷ refused PaddingSet 197
+    ∷ refused PaddingSet 197
+    ∷ refused BytesFollow 200
+    ∷ refused DeadlineShort 139
+    ∷ refused DeadlineShort 139
     ∷ []
 unfolding computing
 refusals = refl
 
 -- under document 01's limits: the image itself, and those 33, which were too many
-before : map (fault_under limits_before keepable) (last ∷ set last 3 0xA8 ∷ []) ≡ Accepted ∷ Refused TransactionCount 28 ∷ []
+before : map (fault_under limits_before keepable) (last ∷ set last 3 0xA8 ∷ []) ≡ accepted ∷ refused TransactionCount 28 ∷ []
 unfolding computing
 before = refl
 
@@ -113,19 +112,19 @@ due byte = set last 20 byte
 
 short :
     map image_fault (due 0x18 ∷ due 0x10 ∷ set (due 0x10) 24 0x19 ∷ (due 0x10 ++ (0x00 ∷ [])) ∷ take 24 (due 0x10) ∷ set (due 0x10) 24 0x00 ∷ [])
-    ≡ Accepted
-    ∷ Refused DeadlineShort 139
-    ∷ Refused DeadlineShort 139
-    ∷ Refused DeadlineShort 139
-    ∷ Refused EndsInside 173
-    ∷ Refused NeverRuns 173
+    ≡ accepted
+    ∷ refused DeadlineShort 139
+    ∷ refused DeadlineShort 139
+    ∷ refused DeadlineShort 139
+    ∷ refused EndsInside 173
+    ∷ refused NeverRuns 173
     ∷ []
 unfolding computing
 short = refl
 
 -- with any deadline let in
 short-let-in :
-    map (fault_under limits any) (due 0x10 ∷ set (due 0x10) 24 0x19 ∷ (due 0x10 ++ (0x00 ∷ [])) ∷ due 0x00 ∷ []) ≡ Accepted ∷ Refused PaddingSet 197 ∷ Refused BytesFollow 200 ∷ Refused DeadlineZero 139 ∷ []
+    map (fault_under limits any) (due 0x10 ∷ set (due 0x10) 24 0x19 ∷ (due 0x10 ++ (0x00 ∷ [])) ∷ due 0x00 ∷ []) ≡ accepted ∷ refused PaddingSet 197 ∷ refused BytesFollow 200 ∷ refused DeadlineZero 139 ∷ []
 unfolding computing
 short-let-in = refl
 
@@ -148,26 +147,26 @@ ends_behind =
 
 first-faults :
     map image_fault ends_behind
-    ≡ Refused FrameZero 4
-    ∷ Refused EndsInside 28
-    ∷ Refused TransactionCount 28
-    ∷ Refused EndsInside 34
-    ∷ Refused PeriodUnfit 34
-    ∷ Refused ModeCount 58
-    ∷ Refused EndsInside 62
-    ∷ Refused TaskCount 62
-    ∷ Refused EndsInside 67
-    ∷ Refused DeadlineZero 139
-    ∷ Refused EndsInside 165
+    ≡ refused FrameZero 4
+    ∷ refused EndsInside 28
+    ∷ refused TransactionCount 28
+    ∷ refused EndsInside 34
+    ∷ refused PeriodUnfit 34
+    ∷ refused ModeCount 58
+    ∷ refused EndsInside 62
+    ∷ refused TaskCount 62
+    ∷ refused EndsInside 67
+    ∷ refused DeadlineZero 139
+    ∷ refused EndsInside 165
     ∷ []
 unfolding computing
 first-faults = refl
 
 -- the sum so far with this transaction's one task: 128, and 129
-with-127-before : head_fault last 127 34 ≡ Accepted
+with-127-before : head_fault last 127 34 ≡ accepted
 unfolding computing
 with-127-before = refl
 
-with-128-before : head_fault last 128 34 ≡ Refused TaskCount 62
+with-128-before : head_fault last 128 34 ≡ refused TaskCount 62
 unfolding computing
 with-128-before = refl

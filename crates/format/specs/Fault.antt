@@ -7,10 +7,8 @@ use Rattle.table.specs.Fields.{Field, width_in_header, width_in_head, width_in_t
 use Rattle.table.specs.Fields.Field.{header, head, task}
 use Rattle.table.specs.Rules.{Look, Deadlines, header_rules, head_rules, task_rules, transaction_rules, body_rules, table_rules}
 use Rattle.table.specs.Rules.Deadlines.{keepable}
-use Rattle.refusals.specs.declared.Answer.{Answer}
-use Rattle.refusals.specs.declared.Answer.TheVariants.{Accepted}
 use Rattle.refusals.specs.declared.Refusal.TheVariants.{EndsInside, PaddingSet, BytesFollow}
-use Rattle.refusals.specs.Answer.{◌then◌, checked}
+use Rattle.refusals.specs.Answer.{Answer, accepted, ◌then◌, checked}
 use Rattle.format.specs.Places.{place_in_header, place_in_head, place_in_task, task_at, start, bytes_to}
 use Rattle.format.specs.Said.{frame_in, count_in, modes_in}
 
@@ -47,7 +45,7 @@ image_fault image = fault_under limits keepable image
 
 -- the image is accepted
 abbrev pub IsAccepted : List ℕ → Type 0
-IsAccepted image = image_fault image ≡ Accepted
+IsAccepted image = image_fault image ≡ accepted
 
 -- ---- the rules of each part, wherever it starts: what the reader looks at in turn
 

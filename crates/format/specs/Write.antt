@@ -7,9 +7,8 @@ use Rattle.table.specs.Fields.{Field, width, number_in}
 use Rattle.table.specs.Fields.Field.{header, head, task}
 use Rattle.table.specs.Rules.{Look, Deadlines, table_rules}
 use Rattle.table.specs.Rules.Deadlines.{keepable}
-use Rattle.refusals.specs.declared.Answer.{Answer}
 use Rattle.refusals.specs.declared.Refusal.TheVariants.{TooLarge, BufferShort}
-use Rattle.refusals.specs.Answer.{◌then◌, checked}
+use Rattle.refusals.specs.Answer.{Answer, ◌then◌, checked}
 use Rattle.format.specs.Places.{first_at, place_in_header, place_in_head, place_in_task, task_at}
 use Rattle.format.specs.Image.{image_of}
 

@@ -2,7 +2,7 @@
 -- rule at the place that the field would have; and the room, after all of these.
 use Rattle.std.specs.Prelude.{◌≡◌, refl, List, [], ◌∷◌, map, ℕ}
 use Rattle.bits.specs.Bits.{field_bits}
-use Rattle.refusals.specs.declared.Answer.TheVariants.{Accepted, Refused}
+use Rattle.refusals.specs.Answer.{accepted, refused}
 use Rattle.refusals.specs.declared.Refusal.TheVariants.{EditionUnknown, FrameZero, TransactionCount, PeriodUnfit, ModeCount, TaskCount, DeadlineZero, NeverRuns, DeadlineShort, TooLarge, BufferShort}
 use Rattle.table.specs.Table.{Task, Table}
 use Rattle.table.specs.Lists.{list_of, joined}
@@ -20,9 +20,9 @@ header :
     ∷ map (λ n. table_fault (with 1 n 0)) (16_777_216 ∷ 16_777_215 ∷ [])
     ∷ map (λ n. table_fault (with 1 1 n)) (0 ∷ 33 ∷ 63 ∷ 64 ∷ [])
     ∷ []
-    ≡ (Refused EditionUnknown 0 ∷ Refused EditionUnknown 0 ∷ Refused EditionUnknown 0 ∷ Refused TooLarge 0 ∷ Refused FrameZero 4 ∷ [])
-    ∷ (Refused TooLarge 4 ∷ Refused TransactionCount 28 ∷ [])
-    ∷ (Refused TransactionCount 28 ∷ Refused TaskCount 62 ∷ Refused TaskCount 62 ∷ Refused TooLarge 28 ∷ [])
+    ≡ (refused EditionUnknown 0 ∷ refused EditionUnknown 0 ∷ refused EditionUnknown 0 ∷ refused TooLarge 0 ∷ refused FrameZero 4 ∷ [])
+    ∷ (refused TooLarge 4 ∷ refused TransactionCount 28 ∷ [])
+    ∷ (refused TransactionCount 28 ∷ refused TaskCount 62 ∷ refused TaskCount 62 ∷ refused TooLarge 28 ∷ [])
     ∷ []
 unfolding computing start_of table_fault
 header = refl
@@ -36,9 +36,9 @@ heads :
     ∷ map (λ m. table_fault (one 20 m [])) (0 ∷ 9 ∷ 15 ∷ 16 ∷ 8 ∷ [])
     ∷ map (λ n. table_fault (one 20 1 (list_of n (λ j. plain 0 0 0 0)))) (0 ∷ 17 ∷ 31 ∷ 32 ∷ 16 ∷ [])
     ∷ []
-    ≡ (Refused PeriodUnfit 34 ∷ Refused PeriodUnfit 34 ∷ Refused PeriodUnfit 34 ∷ Refused TooLarge 34 ∷ Refused ModeCount 58 ∷ [])
-    ∷ (Refused ModeCount 58 ∷ Refused ModeCount 58 ∷ Refused ModeCount 58 ∷ Refused TooLarge 58 ∷ Refused TaskCount 62 ∷ [])
-    ∷ (Refused TaskCount 62 ∷ Refused TaskCount 62 ∷ Refused TaskCount 62 ∷ Refused TooLarge 62 ∷ Refused DeadlineZero 139 ∷ [])
+    ≡ (refused PeriodUnfit 34 ∷ refused PeriodUnfit 34 ∷ refused PeriodUnfit 34 ∷ refused TooLarge 34 ∷ refused ModeCount 58 ∷ [])
+    ∷ (refused ModeCount 58 ∷ refused ModeCount 58 ∷ refused ModeCount 58 ∷ refused TooLarge 58 ∷ refused TaskCount 62 ∷ [])
+    ∷ (refused TaskCount 62 ∷ refused TaskCount 62 ∷ refused TaskCount 62 ∷ refused TooLarge 62 ∷ refused DeadlineZero 139 ∷ [])
     ∷ []
 unfolding computing start_of table_fault
 heads = refl
@@ -59,28 +59,28 @@ tasks :
     ∷ task 2 0 0 4 0 (3 ∷ 16_777_216 ∷ [])
     ∷ task 2 0 0 5 0 (0 ∷ 3 ∷ [])
     ∷ [])
-    ≡ Refused TooLarge 67
-    ∷ Refused TooLarge 91
-    ∷ Refused TooLarge 115
-    ∷ Refused DeadlineZero 139
-    ∷ Refused TooLarge 139
-    ∷ Refused TooLarge 165
-    ∷ Refused TooLarge 197
-    ∷ Refused NeverRuns 173
-    ∷ Accepted
-    ∷ Refused DeadlineShort 139
-    ∷ Refused TooLarge 197
-    ∷ Accepted
+    ≡ refused TooLarge 67
+    ∷ refused TooLarge 91
+    ∷ refused TooLarge 115
+    ∷ refused DeadlineZero 139
+    ∷ refused TooLarge 139
+    ∷ refused TooLarge 165
+    ∷ refused TooLarge 197
+    ∷ refused NeverRuns 173
+    ∷ accepted
+    ∷ refused DeadlineShort 139
+    ∷ refused TooLarge 197
+    ∷ accepted
     ∷ []
 unfolding computing start_of table_fault
 tasks = refl
 
 -- a second transaction, behind one of two tasks
-second : table_fault (table 20 (transaction 20 1 (plain 0 2 9 10 ∷ plain 4 3 8 10 ∷ []) ∷ transaction 3 1 [] ∷ [])) ≡ Refused PeriodUnfit 327
+second : table_fault (table 20 (transaction 20 1 (plain 0 2 9 10 ∷ plain 4 3 8 10 ∷ []) ∷ transaction 3 1 [] ∷ [])) ≡ refused PeriodUnfit 327
 unfolding computing start_of table_fault
 second = refl
 
 -- S has 62 bytes, and a table of one task 25
-room : map (write_fault S) (61 ∷ 62 ∷ []) ∷ map (λ D. write_fault (lone 10 (plain 0 3 5 D)) 24) (10 ∷ 0 ∷ []) ∷ [] ≡ (Refused BufferShort 0 ∷ Accepted ∷ []) ∷ (Refused BufferShort 0 ∷ Refused DeadlineZero 139 ∷ []) ∷ []
+room : map (write_fault S) (61 ∷ 62 ∷ []) ∷ map (λ D. write_fault (lone 10 (plain 0 3 5 D)) 24) (10 ∷ 0 ∷ []) ∷ [] ≡ (refused BufferShort 0 ∷ accepted ∷ []) ∷ (refused BufferShort 0 ∷ refused DeadlineZero 139 ∷ []) ∷ []
 unfolding computing start_of table_fault write_fault image_of table_bits transaction_bits task_bits field_bits bytes_of number_of joined
 room = refl

@@ -4,8 +4,7 @@ use mathlib.Core.Path.{◌≡◌, sym, ◌∙◌}
 use Prim.Native.Nat.{ℕ, ◌+◌, ◌-◌, ◌≤◌, ◌<◌, ◌^◌}
 use native.Mathlib.Nat.{le_refl, le_trans}
 use native.Mathlib.Omega.{arith}
-use Rattle.refusals.specs.declared.Answer.{Answer}
-use Rattle.refusals.specs.declared.Answer.TheVariants.{Accepted}
+use Rattle.refusals.specs.Answer.{Answer, accepted}
 use Rattle.refusals.proofs.Findings.{Joins}
 use Rattle.table.specs.Sum.{sum, greatest}
 use Rattle.table.specs.Limits.{limits, tasks_in_all}
@@ -117,7 +116,7 @@ module _ {look : Look Field} {tab : Table} (reads : Reads look tab) where
         rw some (before-read (le_refl (transactions tab))) in
         omega (arith, whole, sum-next last (λ v. look.number (Field.head v HeadField.tasks)), (s.transaction last (omega (arith, count-read))).head.in_all)
 
-    pub rules-keep : {join : Answer → Answer → Answer} → Joins join → table_rules join limits keepable look ≡ Accepted → Kept tab
+    pub rules-keep : {join : Answer → Answer → Answer} → Joins join → table_rules join limits keepable look ≡ accepted → Kept tab
     unfolding number_in
     rules-keep joins h =
         let s = sound-table limits keepable joins look h in
@@ -133,7 +132,7 @@ module _ {look : Look Field} {tab : Table} (reads : Reads look tab) where
 
   -- ---- Kept gives no finding by the rules, where no field of the table has one of its own
 
-  module _ (kept : Kept tab) (there : (f : Field) → IsField tab f → look.finding f ≡ Accepted) where
+  module _ (kept : Kept tab) (there : (f : Field) → IsField tab f → look.finding f ≡ accepted) where
     sound-task : {u j : ℕ} → IsTask tab u j → SoundTask keepable (look.number (Field.head u HeadField.modes)) (part (Field.task u j) look)
     unfolding modes offset deadline time task tasks
     sound-task {u} {j} is =
@@ -169,7 +168,7 @@ module _ {look : Look Field} {tab : Table} (reads : Reads look tab) where
           task = λ j below. sound-task (record { owner = h; place = rw (tasks-read h) at below });
         }
 
-    pub kept-rules : {join : Answer → Answer → Answer} → Joins join → table_rules join limits keepable look ≡ Accepted
+    pub kept-rules : {join : Answer → Answer → Answer} → Joins join → table_rules join limits keepable look ≡ accepted
     kept-rules joins =
         clear-table limits keepable joins look
         (record {

@@ -6,9 +6,8 @@ use Prim.Native.Nat.{ℕ, ◌+◌, ◌≤◌, ◌<◌}
 use native.Mathlib.Omega.{arith}
 use lib.Dec.{leb}
 use borrow.Author.Tests.{leb-false}
-use Rattle.refusals.specs.declared.Answer.TheVariants.{Accepted}
 use Rattle.refusals.specs.declared.Refusal.TheVariants.{DeadlineZero, NeverRuns, DeadlineShort}
-use Rattle.refusals.specs.Answer.{◌then◌, found_of, first_of, checked}
+use Rattle.refusals.specs.Answer.{accepted, ◌then◌, found_of, first_of, checked}
 use Rattle.refusals.proofs.Findings.{then-accepted, then-joins, Stays, stays-checked, stays_then, stays-first}
 use Rattle.table.specs.Sum.{sum, greatest}
 use Rattle.table.specs.Limits.{Limits}
@@ -36,7 +35,7 @@ left_out many look = then-accepted _
 
 -- ---- what is found
 
-stays-left-out : (t : Bool) (at : ℕ) → Stays IsShort (checked t DeadlineShort at) Accepted
+stays-left-out : (t : Bool) (at : ℕ) → Stays IsShort (checked t DeadlineShort at) accepted
 unfolding checked
 stays-left-out t at = stays-checked IsShort t {t = true} DeadlineShort at refl (λ _. refl)
 
@@ -107,10 +106,10 @@ module _ {look : Look Field} {tab : Table} (reads : Reads look tab) where
 
     -- and so with the findings
 
-    pub keepable-clear : table_rules ◌then◌ limits any look ≡ Accepted → EachKeepable tab → table_rules ◌then◌ limits keepable look ≡ Accepted
+    pub keepable-clear : table_rules ◌then◌ limits any look ≡ accepted → EachKeepable tab → table_rules ◌then◌ limits keepable look ≡ accepted
     keepable-clear clear kept = clear-table limits keepable then-joins look (sound-with (sound-table limits any then-joins look clear) kept)
 
-    pub clear-keepable : table_rules ◌then◌ limits keepable look ≡ Accepted → EachKeepable tab
+    pub clear-keepable : table_rules ◌then◌ limits keepable look ≡ accepted → EachKeepable tab
     clear-keepable clear =
         let s = sound-table limits keepable then-joins look clear in
         record {

@@ -5,29 +5,26 @@ use mathlib.Core.Bool.{Bool, true}
 use Prim.Native.Nat.{ℕ, ◌+◌, ◌%◌, ◌≤◌, ◌<◌}
 use lib.Dec.{leb}
 use borrow.Author.Tests.{leb-true, eqb-true, le-leb, eq-eqb}
-use Rattle.refusals.specs.declared.Answer.{Answer}
-use Rattle.refusals.specs.declared.Answer.TheVariants.{Accepted}
 use Rattle.refusals.specs.declared.Refusal.{Refusal}
-use Rattle.refusals.specs.Answer.{checked}
+use Rattle.refusals.specs.Answer.{Answer, accepted, checked}
 use Rattle.refusals.proofs.Findings.{Joins, none_of, none-in-all, held, holds, both_first, both-second, both_hold}
 use Rattle.table.specs.Sum.{sum, greatest}
 use Rattle.table.specs.Limits.{Limits, edition_known}
 use Rattle.table.specs.Fields.{HeaderField, HeadField, TaskField, Field, IsTaskField}
-use Rattle.table.specs.RuleCases
 use Rattle.table.specs.Rules.Deadlines.{any, keepable}
 use Rattle.table.specs.Rules.{Look, part, is_between, Deadlines, asked, rule, header_rules, head_rules, task_rules, transaction_rules, body_rules, table_rules}
 
 -- ---- what holds where there is no finding
 
 pub record SoundHeader (limits : Limits) (look : Look HeaderField) : Type 0 where
-  pub there : (f : HeaderField) → look.finding f ≡ Accepted
+  pub there : (f : HeaderField) → look.finding f ≡ accepted
   pub edition : look.number HeaderField.edition ≡ edition_known
   pub frame : 1 ≤ look.number HeaderField.frame
   pub some : 1 ≤ look.number HeaderField.count
   pub few : look.number HeaderField.count ≤ limits.transactions
 
 pub record SoundHead (limits : Limits) (major before : ℕ) (look : Look HeadField) : Type 0 where
-  pub there : (f : HeadField) → look.finding f ≡ Accepted
+  pub there : (f : HeadField) → look.finding f ≡ accepted
   pub period : 1 ≤ look.number HeadField.period
   pub divides : major % look.number HeadField.period ≡ 0
   pub some_mode : 1 ≤ look.number HeadField.modes
@@ -42,7 +39,7 @@ Keepable any offset time deadline = Unit
 Keepable keepable offset time deadline = offset + time ≤ deadline
 
 pub record SoundTask (deadlines : Deadlines) (many : ℕ) (look : Look TaskField) : Type 0 where
-  pub there : (f : TaskField) → IsTaskField many f → look.finding f ≡ Accepted
+  pub there : (f : TaskField) → IsTaskField many f → look.finding f ≡ accepted
   pub due : 1 ≤ look.number TaskField.deadline
   pub runs : 1 ≤ sum many (λ m. look.number (TaskField.time m))
   pub keepable : Keepable deadlines (look.number TaskField.offset) (greatest many (λ m. look.number (TaskField.time m))) (look.number TaskField.deadline)
@@ -61,26 +58,26 @@ pub record SoundTable (limits : Limits) (deadlines : Deadlines) (look : Look Fie
   pub transaction : (u : ℕ) → u < look.number (Field.header HeaderField.count) → TransactionAt limits deadlines look u
 
 module _ {join : Answer → Answer → Answer} (joins : Joins join) {F : Type 0} (look : Look F) (f : F) (t : Bool) (r : Refusal) where
-  rule-there : rule join look f t r ≡ Accepted → look.finding f ≡ Accepted
+  rule-there : rule join look f t r ≡ accepted → look.finding f ≡ accepted
   rule-there h = joins.first _ _ h
 
-  rule-holds : rule join look f t r ≡ Accepted → t ≡ true
+  rule-holds : rule join look f t r ≡ accepted → t ≡ true
   rule-holds h = held _ _ _ (joins.second _ _ h)
 
-  rule-kept : look.finding f ≡ Accepted → t ≡ true → rule join look f t r ≡ Accepted
+  rule-kept : look.finding f ≡ accepted → t ≡ true → rule join look f t r ≡ accepted
   rule-kept there h = joins.none there (holds r _ h)
 
 -- a rule that may not be asked for
-asked-keepable : (deadlines : Deadlines) (o c d : ℕ) (r : Refusal) (at : ℕ) → asked deadlines (checked (leb (o + c) d) r at) ≡ Accepted → Keepable deadlines o c d
+asked-keepable : (deadlines : Deadlines) (o c d : ℕ) (r : Refusal) (at : ℕ) → asked deadlines (checked (leb (o + c) d) r at) ≡ accepted → Keepable deadlines o c d
 asked-keepable any o c d r at h = tt
 asked-keepable keepable o c d r at h = leb-true (o + c) d (held _ _ _ h)
 
-keepable-asked : (deadlines : Deadlines) (o c d : ℕ) (r : Refusal) (at : ℕ) → Keepable deadlines o c d → asked deadlines (checked (leb (o + c) d) r at) ≡ Accepted
+keepable-asked : (deadlines : Deadlines) (o c d : ℕ) (r : Refusal) (at : ℕ) → Keepable deadlines o c d → asked deadlines (checked (leb (o + c) d) r at) ≡ accepted
 keepable-asked any o c d r at h = refl
 keepable-asked keepable o c d r at h = holds r at (le-leb (o + c) d h)
 
 module _ (limits : Limits) {join : Answer → Answer → Answer} (joins : Joins join) where
-  pub sound-header : (look : Look HeaderField) → header_rules join limits look ≡ Accepted → SoundHeader limits look
+  pub sound-header : (look : Look HeaderField) → header_rules join limits look ≡ accepted → SoundHeader limits look
   unfolding header_rules
   sound-header look h =
       let h₁ = joins.first _ _ h in
@@ -91,7 +88,7 @@ module _ (limits : Limits) {join : Answer → Answer → Answer} (joins : Joins 
       record {
         there =
             λ f.
-            elim f as (λ f. look.finding f ≡ Accepted) [
+            elim f as (λ f. look.finding f ≡ accepted) [
               | HeaderField.edition ↦ rule-there joins look HeaderField.edition _ _ at-edition
               | HeaderField.frame ↦ rule-there joins look HeaderField.frame _ _ at-frame
               | HeaderField.count ↦ rule-there joins look HeaderField.count _ _ at_count
@@ -102,7 +99,7 @@ module _ (limits : Limits) {join : Answer → Answer → Answer} (joins : Joins 
         few = leb-true _ _ (both-second (leb 1 (look.number HeaderField.count)) _ count);
       }
 
-  pub clear-header : (look : Look HeaderField) → SoundHeader limits look → header_rules join limits look ≡ Accepted
+  pub clear-header : (look : Look HeaderField) → SoundHeader limits look → header_rules join limits look ≡ accepted
   unfolding header_rules
   clear-header look s =
       joins.none
@@ -112,7 +109,7 @@ module _ (limits : Limits) {join : Answer → Answer → Answer} (joins : Joins 
       (rule-kept joins look HeaderField.count _ _ (s.there HeaderField.count) (both_hold (le-leb _ _ s.some) (le-leb _ _ s.few)))
 
   module _ (major before : ℕ) (look : Look HeadField) where
-    pub sound-head : head_rules join limits major before look ≡ Accepted → SoundHead limits major before look
+    pub sound-head : head_rules join limits major before look ≡ accepted → SoundHead limits major before look
     unfolding head_rules
     sound-head h =
         let h₁ = joins.first _ _ h in
@@ -126,7 +123,7 @@ module _ (limits : Limits) {join : Answer → Answer → Answer} (joins : Joins 
         record {
           there =
               λ f.
-              elim f as (λ f. look.finding f ≡ Accepted) [
+              elim f as (λ f. look.finding f ≡ accepted) [
                 | HeadField.period ↦ rule-there joins look HeadField.period _ _ at-period
                 | HeadField.modes ↦ rule-there joins look HeadField.modes _ _ at-modes
                 | HeadField.tasks ↦ rule-there joins look HeadField.tasks _ _ at-tasks
@@ -140,7 +137,7 @@ module _ (limits : Limits) {join : Answer → Answer → Answer} (joins : Joins 
           in_all = leb-true _ _ (both-second (is_between 1 limits.tasks (look.number HeadField.tasks)) _ tasks);
         }
 
-    pub clear-head : SoundHead limits major before look → head_rules join limits major before look ≡ Accepted
+    pub clear-head : SoundHead limits major before look → head_rules join limits major before look ≡ accepted
     unfolding head_rules
     clear-head s =
         joins.none
@@ -151,7 +148,7 @@ module _ (limits : Limits) {join : Answer → Answer → Answer} (joins : Joins 
         (both_hold (both_hold (le-leb _ _ s.some_task) (le-leb _ _ s.few_tasks)) (le-leb _ _ s.in_all)))
 
 module _ (deadlines : Deadlines) {join : Answer → Answer → Answer} (joins : Joins join) (many : ℕ) (look : Look TaskField) where
-  pub sound-task : task_rules join deadlines many look ≡ Accepted → SoundTask deadlines many look
+  pub sound-task : task_rules join deadlines many look ≡ accepted → SoundTask deadlines many look
   unfolding task_rules
   sound-task h =
       let h₁ = joins.first _ _ h in
@@ -164,7 +161,7 @@ module _ (deadlines : Deadlines) {join : Answer → Answer → Answer} (joins : 
       record {
         there =
             λ f.
-            elim f as (λ f. IsTaskField many f → look.finding f ≡ Accepted) [
+            elim f as (λ f. IsTaskField many f → look.finding f ≡ accepted) [
               | TaskField.offset ↦ λ within. joins.first _ _ h₆
               | TaskField.jitter ↦ λ within. joins.second _ _ h₆
               | TaskField.blocking ↦ λ within. joins.second _ _ h₅
@@ -177,7 +174,7 @@ module _ (deadlines : Deadlines) {join : Answer → Answer → Answer} (joins : 
         keepable = asked-keepable deadlines _ _ _ _ _ (joins.second _ _ h);
       }
 
-  pub clear-task : SoundTask deadlines many look → task_rules join deadlines many look ≡ Accepted
+  pub clear-task : SoundTask deadlines many look → task_rules join deadlines many look ≡ accepted
   unfolding task_rules
   clear-task s =
       joins.none
@@ -197,7 +194,7 @@ module _ (deadlines : Deadlines) {join : Answer → Answer → Answer} (joins : 
 module _ (limits : Limits) (deadlines : Deadlines) {join : Answer → Answer → Answer} (joins : Joins join) where
   module _ (major before : ℕ) (look : Look HeadField) (each : ℕ → Look TaskField) where
     pub sound-transaction :
-        transaction_rules join limits deadlines major before look each ≡ Accepted → SoundTransaction limits deadlines major before look each
+        transaction_rules join limits deadlines major before look each ≡ accepted → SoundTransaction limits deadlines major before look each
     unfolding transaction_rules
     sound-transaction h =
         record {
@@ -206,13 +203,13 @@ module _ (limits : Limits) (deadlines : Deadlines) {join : Answer → Answer →
         }
 
     pub clear-transaction :
-        SoundTransaction limits deadlines major before look each → transaction_rules join limits deadlines major before look each ≡ Accepted
+        SoundTransaction limits deadlines major before look each → transaction_rules join limits deadlines major before look each ≡ accepted
     unfolding transaction_rules
     clear-transaction s =
         joins.none (clear-head limits joins major before look s.head)
         (none-in-all joins (look.number HeadField.tasks) _ (λ j below. clear-task deadlines joins (look.number HeadField.modes) (each j) (s.task j below)))
 
-  pub sound-table : (look : Look Field) → table_rules join limits deadlines look ≡ Accepted → SoundTable limits deadlines look
+  pub sound-table : (look : Look Field) → table_rules join limits deadlines look ≡ accepted → SoundTable limits deadlines look
   unfolding table_rules body_rules
   sound-table look h =
       record {
@@ -223,7 +220,7 @@ module _ (limits : Limits) (deadlines : Deadlines) {join : Answer → Answer →
             (none_of joins (look.number (Field.header HeaderField.count)) _ (joins.second _ _ h) u below);
       }
 
-  pub clear-table : (look : Look Field) → SoundTable limits deadlines look → table_rules join limits deadlines look ≡ Accepted
+  pub clear-table : (look : Look Field) → SoundTable limits deadlines look → table_rules join limits deadlines look ≡ accepted
   unfolding table_rules body_rules
   clear-table look s =
       joins.none (clear-header limits joins (part Field.header look) s.header)

@@ -1,10 +1,8 @@
 -- The rules computed at small tables that keep them, or break one: the condition of each, its place, and that a field is
 -- checked as soon as it is there, before the next one is asked for.
 use Rattle.std.specs.Prelude.{◌≡◌, refl, List, [], ◌∷◌, map, ℕ, suc, ◌+◌, ◌*◌, ltb}
-use Rattle.refusals.specs.declared.Answer.{Answer}
-use Rattle.refusals.specs.declared.Answer.TheVariants.{Accepted, Refused}
 use Rattle.refusals.specs.declared.Refusal.TheVariants.{EndsInside, EditionUnknown, FrameZero, TransactionCount, PeriodUnfit, ModeCount, TaskCount, DeadlineZero, NeverRuns, DeadlineShort}
-use Rattle.refusals.specs.Answer.{◌then◌, checked}
+use Rattle.refusals.specs.Answer.{Answer, accepted, refused, ◌then◌, checked}
 use Rattle.table.specs.Table.{Table}
 use Rattle.table.specs.Limits.{Limits, limits}
 use Rattle.table.specs.Lists.{list_of}
@@ -49,7 +47,7 @@ abbrev found : Table → (cut : ℕ) → Answer
 found = found_under limits keepable
 
 -- S, whole and cut: its last field is the time of its last task
-whole : map (found S) (216 ∷ 215 ∷ 124 ∷ 0 ∷ []) ≡ Accepted ∷ Refused EndsInside 215 ∷ Refused EndsInside 124 ∷ Refused EndsInside 0 ∷ []
+whole : map (found S) (216 ∷ 215 ∷ 124 ∷ 0 ∷ []) ≡ accepted ∷ refused EndsInside 215 ∷ refused EndsInside 124 ∷ refused EndsInside 0 ∷ []
 unfolding computing
 whole = refl
 
@@ -69,54 +67,54 @@ tasks_of n = table 20 (transaction 20 1 (list_of n (λ j. task 0 0 0 1 0 (1 ∷ 
 
 -- each field cut off, there and faulty with nothing behind it, and there and sound
 
-edition : found S 0 ∷ found (record { edition = 2; frame = 0; transactions = [] }) 1 ∷ found S 1 ∷ [] ≡ Refused EndsInside 0 ∷ Refused EditionUnknown 0 ∷ Refused EndsInside 1 ∷ []
+edition : found S 0 ∷ found (record { edition = 2; frame = 0; transactions = [] }) 1 ∷ found S 1 ∷ [] ≡ refused EndsInside 0 ∷ refused EditionUnknown 0 ∷ refused EndsInside 1 ∷ []
 unfolding computing
 edition = refl
 
-frame : found (with 0 0 0 []) 1 ∷ found (with 0 0 0 []) 2 ∷ found S 2 ∷ [] ≡ Refused EndsInside 1 ∷ Refused FrameZero 1 ∷ Refused EndsInside 2 ∷ []
+frame : found (with 0 0 0 []) 1 ∷ found (with 0 0 0 []) 2 ∷ found S 2 ∷ [] ≡ refused EndsInside 1 ∷ refused FrameZero 1 ∷ refused EndsInside 2 ∷ []
 unfolding computing
 frame = refl
 
 count :
     found (transactions_of 0) 2 ∷ map (λ n. found (transactions_of n) 3) (0 ∷ 1 ∷ 63 ∷ 64 ∷ [])
-    ≡ Refused EndsInside 2 ∷ Refused TransactionCount 2 ∷ Refused EndsInside 100 ∷ Refused EndsInside 100 ∷ Refused TransactionCount 2 ∷ []
+    ≡ refused EndsInside 2 ∷ refused TransactionCount 2 ∷ refused EndsInside 100 ∷ refused EndsInside 100 ∷ refused TransactionCount 2 ∷ []
 unfolding computing
 count = refl
 
 -- under document 01's limits 33 were too many
-count-before : map (λ n. found_under limits_before keepable (transactions_of n) 3) (32 ∷ 33 ∷ []) ∷ map (λ n. found (transactions_of n) 3) (33 ∷ []) ∷ [] ≡ (Refused EndsInside 100 ∷ Refused TransactionCount 2 ∷ []) ∷ (Refused EndsInside 100 ∷ []) ∷ []
+count-before : map (λ n. found_under limits_before keepable (transactions_of n) 3) (32 ∷ 33 ∷ []) ∷ map (λ n. found (transactions_of n) 3) (33 ∷ []) ∷ [] ≡ (refused EndsInside 100 ∷ refused TransactionCount 2 ∷ []) ∷ (refused EndsInside 100 ∷ []) ∷ []
 unfolding computing
 count-before = refl
 
 period :
     found (with 20 0 0 []) 100 ∷ map (λ T. found (with 20 T 0 []) 101) (0 ∷ 1 ∷ 3 ∷ 10 ∷ 20 ∷ 40 ∷ [])
-    ≡ Refused EndsInside 100 ∷ Refused PeriodUnfit 100 ∷ Refused EndsInside 101 ∷ Refused PeriodUnfit 100 ∷ Refused EndsInside 101 ∷ Refused EndsInside 101 ∷ Refused PeriodUnfit 100 ∷ []
+    ≡ refused EndsInside 100 ∷ refused PeriodUnfit 100 ∷ refused EndsInside 101 ∷ refused PeriodUnfit 100 ∷ refused EndsInside 101 ∷ refused EndsInside 101 ∷ refused PeriodUnfit 100 ∷ []
 unfolding computing
 period = refl
 
 modes :
     found (modes_of 0) 101 ∷ map (λ n. found (modes_of n) 102) (0 ∷ 1 ∷ 8 ∷ 9 ∷ [])
-    ≡ Refused EndsInside 101 ∷ Refused ModeCount 101 ∷ Refused EndsInside 102 ∷ Refused EndsInside 102 ∷ Refused ModeCount 101 ∷ []
+    ≡ refused EndsInside 101 ∷ refused ModeCount 101 ∷ refused EndsInside 102 ∷ refused EndsInside 102 ∷ refused ModeCount 101 ∷ []
 unfolding computing
 modes = refl
 
 tasks :
     found (tasks_of 0) 102 ∷ map (λ n. found (tasks_of n) 103) (0 ∷ 1 ∷ 16 ∷ 17 ∷ [])
-    ≡ Refused EndsInside 102 ∷ Refused TaskCount 102 ∷ Refused EndsInside 110 ∷ Refused EndsInside 110 ∷ Refused TaskCount 102 ∷ []
+    ≡ refused EndsInside 102 ∷ refused TaskCount 102 ∷ refused EndsInside 110 ∷ refused EndsInside 110 ∷ refused TaskCount 102 ∷ []
 unfolding computing
 tasks = refl
 
 -- the sum so far: S has two tasks and then one
 sum-so-far :
     map (λ n. found_under (record { transactions = 2; modes = 1; tasks = 2; in_all = n }) keepable S 216) (1 ∷ 2 ∷ 3 ∷ [])
-    ≡ Refused TaskCount 102 ∷ Refused TaskCount 202 ∷ Accepted ∷ []
+    ≡ refused TaskCount 102 ∷ refused TaskCount 202 ∷ accepted ∷ []
 unfolding computing
 sum-so-far = refl
 
 -- five transactions of 13 tasks were too many under document 01's limits
 sum-before :
     map (λ most. found_under most keepable (table 20 (list_of 5 (λ u. transaction 20 1 (list_of 13 (λ j. task 0 0 0 1 0 (1 ∷ [])))))) 636) (limits_before ∷ limits ∷ [])
-    ≡ Refused TaskCount 502 ∷ Accepted ∷ []
+    ≡ refused TaskCount 502 ∷ accepted ∷ []
 unfolding computing
 sum-before = refl
 
@@ -125,7 +123,7 @@ most-tasks = refl
 
 deadline :
     found (with 20 20 0 []) 113 ∷ found (with 20 20 0 []) 114 ∷ found (with 20 20 1 []) 114 ∷ []
-    ≡ Refused EndsInside 113 ∷ Refused DeadlineZero 113 ∷ Refused EndsInside 114 ∷ []
+    ≡ refused EndsInside 113 ∷ refused DeadlineZero 113 ∷ refused EndsInside 114 ∷ []
 unfolding computing
 deadline = refl
 
@@ -134,7 +132,7 @@ times :
     map (found (with 20 20 1 (0 ∷ 0 ∷ []))) (115 ∷ 116 ∷ 117 ∷ [])
     ∷ map (λ C. found (with 20 20 1 C) 117) ((0 ∷ 1 ∷ []) ∷ (1 ∷ 0 ∷ []) ∷ [])
     ∷ []
-    ≡ (Refused EndsInside 115 ∷ Refused EndsInside 116 ∷ Refused NeverRuns 115 ∷ []) ∷ (Accepted ∷ Accepted ∷ []) ∷ []
+    ≡ (refused EndsInside 115 ∷ refused EndsInside 116 ∷ refused NeverRuns 115 ∷ []) ∷ (accepted ∷ accepted ∷ []) ∷ []
 unfolding computing
 times = refl
 
@@ -148,20 +146,20 @@ fault_behind D = table 20 (transaction 20 2 (task 3 0 0 D 0 (2 ∷ 4 ∷ []) ∷
 -- a deadline below the offset, one tick below the offset plus the greatest time, which any mode may have, and just enough
 short :
     map (λ D. found (due_at D (2 ∷ 4 ∷ [])) 117) (2 ∷ 6 ∷ 7 ∷ []) ∷ map (λ D. found (due_at D (4 ∷ 2 ∷ [])) 117) (6 ∷ 7 ∷ []) ∷ []
-    ≡ (Refused DeadlineShort 113 ∷ Refused DeadlineShort 113 ∷ Accepted ∷ []) ∷ (Refused DeadlineShort 113 ∷ Accepted ∷ []) ∷ []
+    ≡ (refused DeadlineShort 113 ∷ refused DeadlineShort 113 ∷ accepted ∷ []) ∷ (refused DeadlineShort 113 ∷ accepted ∷ []) ∷ []
 unfolding computing
 short = refl
 
 -- the task's own faults come first, then this one, and then those of the next task
 short-in-order :
     found (due_at 6 (2 ∷ 4 ∷ [])) 116 ∷ found (due_at 0 (2 ∷ 4 ∷ [])) 117 ∷ found (due_at 2 (0 ∷ 0 ∷ [])) 117 ∷ found (fault_behind 6) 200 ∷ found (fault_behind 7) 200 ∷ []
-    ≡ Refused EndsInside 116 ∷ Refused DeadlineZero 113 ∷ Refused NeverRuns 115 ∷ Refused DeadlineShort 113 ∷ Refused DeadlineZero 123 ∷ []
+    ≡ refused EndsInside 116 ∷ refused DeadlineZero 113 ∷ refused NeverRuns 115 ∷ refused DeadlineShort 113 ∷ refused DeadlineZero 123 ∷ []
 unfolding computing
 short-in-order = refl
 
 -- where any deadline is let in there is no such rule
 short-let-in :
     map (λ D. found_under limits any (due_at D (2 ∷ 4 ∷ [])) 117) (2 ∷ 6 ∷ 0 ∷ []) ∷ map (λ D. found_under limits any (fault_behind D) 200) (6 ∷ []) ∷ []
-    ≡ (Accepted ∷ Accepted ∷ Refused DeadlineZero 113 ∷ []) ∷ (Refused DeadlineZero 123 ∷ []) ∷ []
+    ≡ (accepted ∷ accepted ∷ refused DeadlineZero 113 ∷ []) ∷ (refused DeadlineZero 123 ∷ []) ∷ []
 unfolding computing
 short-let-in = refl

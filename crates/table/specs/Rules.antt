@@ -3,11 +3,9 @@
 -- an image brings what its bits say, who writes a table the table's own numbers, and both the first finding, the limits that there
 -- are and only deadlines that can be kept.
 use Rattle.std.specs.Prelude.{Bool, ◌&&◌, ℕ, ◌+◌, ◌%◌, leb, eqb}
-use Rattle.refusals.specs.declared.Answer.{Answer}
-use Rattle.refusals.specs.declared.Answer.TheVariants.{Accepted}
 use Rattle.refusals.specs.declared.Refusal.{Refusal}
 use Rattle.refusals.specs.declared.Refusal.TheVariants.{EditionUnknown, FrameZero, TransactionCount, PeriodUnfit, ModeCount, TaskCount, DeadlineZero, NeverRuns, DeadlineShort}
-use Rattle.refusals.specs.Answer.{found_of, checked}
+use Rattle.refusals.specs.Answer.{Answer, accepted, found_of, checked}
 use Rattle.table.specs.Sum.{sum, greatest}
 use Rattle.table.specs.Limits.{Limits, edition_known}
 use Rattle.table.specs.Fields.{HeaderField, HeadField, TaskField, Field}
@@ -38,7 +36,7 @@ pub data Deadlines : Type 0 where
 
 -- that rule's finding, where it is asked for
 abbrev pub asked : Deadlines → Answer → Answer
-asked any found = Accepted
+asked any found = accepted
 asked keepable found = found
 
 module _ (◌then◌ : Answer → Answer → Answer) where
