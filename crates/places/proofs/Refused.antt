@@ -6,9 +6,7 @@ use Prim.Native.Nat.{ℕ, ◌≤◌, ◌<◌}
 use native.Mathlib.Omega.{arith}
 use Rattle.refusals.specs.declared.Refusal.{Refusal}
 use Rattle.refusals.specs.declared.Refusal.TheVariants.{DeadlineShort}
-use Rattle.refusals.specs.declared.Answer.{Answer}
-use Rattle.refusals.specs.declared.Answer.TheVariants.{Refused}
-use Rattle.refusals.specs.Answer.{◌then◌, first_of}
+use Rattle.refusals.specs.Answer.{Answer, refused, ◌then◌, first_of}
 use Rattle.refusals.proofs.Findings.{Only, only-checked, only-failed, only_then, only-first}
 use Rattle.table.specs.Keepable.{IsKeepable}
 use Rattle.table.specs.Fields as table
@@ -119,7 +117,7 @@ module _ (image : List ℕ) where
   points-held follow = behind (omega arith)
 
   -- the answer at the place of a refusal is what the refusal is about
-  pub refused-at : {refusal : Refusal} {p : ℕ} {r : Field} → image_fault image ≡ Refused refusal p → Held image p r → Points image refusal p r
+  pub refused-at : {refusal : Refusal} {p : ℕ} {r : Field} → image_fault image ≡ refused refusal p → Held image p r → Points image refusal p r
   refused-at {refusal} {p} {r} e h =
       let (s, points) = rw e at image-right in
       rw (held-unique image p h (points-held points)) points
@@ -134,5 +132,5 @@ module _ (image : List ℕ) where
   points-short : {p : ℕ} {r : Field} → Points image DeadlineShort p r → ShortAt p
   points-short (starts f has (About.short u j short)) = record { u = u; j = j; holds = own-place image (task u j TaskField.deadline) has; short = short }
 
-  pub short-at : {p : ℕ} → image_fault image ≡ Refused DeadlineShort p → ShortAt p
+  pub short-at : {p : ℕ} → image_fault image ≡ refused DeadlineShort p → ShortAt p
   short-at e = points-short (rw e at image-right).1

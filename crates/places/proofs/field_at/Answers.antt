@@ -1,5 +1,5 @@
 -- `field_at` meets its contract: a field of the header, of the transaction that the place lies in, or none.
-use Prim.Native.Nat.{ℕ, suc, ◌-◌, ◌<◌}
+use Prim.Native.Nat.{ℕ, suc, ◌<◌}
 use native.Mathlib.Omega.{arith}
 use Rattle.format.specs.Places.{start}
 use Rattle.format.specs.Said.{count_in}
