@@ -11,33 +11,17 @@ ghost use Rattle.table.specs.Rules.{is_between, is_divisor};
 use refusals::{Answer, Refusal, check};
 use row::{Table, Transaction};
 
-fn between(least: usize, most: usize, n: usize) -> bool
-    ensures { result ≡ is_between least most n }
-{
-    if n < least {
-        return false;
-    }
-    n <= most
-}
-
 fn divides(frame: u32, period: u32) -> bool
     ensures { result ≡ is_divisor frame period }
 {
-    if period < 1 {
-        return false;
-    }
-    frame % period == 0
+    1 <= period && frame % period == 0
 }
 
 // A task count is in range, and the sum so far with it.
 fn few_tasks(before: usize, tasks: usize) -> bool
     ensures { result ≡ (is_between 1 tasks_most tasks && leb (before + tasks) tasks_in_all) }
 {
-    let some = between(1, Transaction::TASKS, tasks);
-    if some {
-        return before <= Table::TASKS - tasks;
-    }
-    false
+    (1..=Transaction::TASKS).contains(&tasks) && before <= Table::TASKS - tasks
 }
 
 pub fn edition(n: u32, at: usize) -> Answer
@@ -56,7 +40,7 @@ pub fn transactions(n: usize, at: usize) -> Answer
     ensures { result ≡ checked (is_between 1 transactions_most n) TransactionCount at }
 {
     check(
-        between(1, Table::TRANSACTIONS, n),
+        (1..=Table::TRANSACTIONS).contains(&n),
         Refusal::TransactionCount,
         at,
     )
@@ -72,7 +56,11 @@ pub fn period(frame: u32, n: u32, at: usize) -> Answer
 pub fn modes(n: usize, at: usize) -> Answer
     ensures { result ≡ checked (is_between 1 modes_most n) ModeCount at }
 {
-    check(between(1, Transaction::MODES, n), Refusal::ModeCount, at)
+    check(
+        (1..=Transaction::MODES).contains(&n),
+        Refusal::ModeCount,
+        at,
+    )
 }
 
 // Where so many tasks stand before the transaction.
@@ -86,14 +74,7 @@ pub fn tasks(before: usize, n: usize, at: usize) -> Answer
 pub fn is_head(frame: u32, before: usize, period: u32, modes: usize, tasks: usize) -> bool
     ensures { result ≡ (is_divisor frame period && (is_between 1 modes_most modes && (is_between 1 tasks_most tasks && leb (before + tasks) tasks_in_all))) }
 {
-    let period_fits = divides(frame, period);
-    if period_fits {
-        let modes_fit = between(1, Transaction::MODES, modes);
-        if modes_fit {
-            return few_tasks(before, tasks);
-        }
-    }
-    false
+    divides(frame, period) && (1..=Transaction::MODES).contains(&modes) && few_tasks(before, tasks)
 }
 
 pub fn deadline(n: u32, at: usize) -> Answer
@@ -106,7 +87,7 @@ pub fn deadline(n: u32, at: usize) -> Answer
 pub fn greater(x: u32, y: u32) -> u32
     ensures { result ≡ max x y }
 {
-    if x < y { y } else { x }
+    x.max(y)
 }
 
 // By the greatest of the task's times.
@@ -120,7 +101,7 @@ pub fn times(greatest: u32, at: usize) -> Answer
 pub fn is_keepable(offset: u32, greatest: u32, deadline: u32) -> bool
     ensures { result ≡ leb (offset + greatest) deadline }
 {
-    offset as u64 + greatest as u64 <= deadline as u64
+    u64::from(offset) + u64::from(greatest) <= u64::from(deadline)
 }
 
 pub fn keepable(offset: u32, greatest: u32, deadline: u32, at: usize) -> Answer

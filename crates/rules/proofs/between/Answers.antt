@@ -1,9 +1,0 @@
--- `between` meets its contract, a return for each outcome of the first test.
-use borrow.Author.Tests.{le-leb, lt-leb}
-use Rattle.rules.proofs.between.Goals as goal
-
-pub returns-then-n-least : goal.returns-then-n-least
-returns-then-n-least c = rw (lt-leb c.args.least c.args.n c.if-n-least.true)
-
-pub returns : goal.returns
-returns c = rw (le-leb c.args.least c.args.n c.if-n-least.false)
