@@ -6,6 +6,7 @@ use native.Mathlib.Decide.{ℕ_discrete}
 use native.Mathlib.Numerals.{add-one}
 use native.Mathlib.Omega.{arith}
 use Rattle.refusals.specs.declared.Refusal.{Refusal}
+use Rattle.refusals.specs.declared.Fault.{Fault}
 use Rattle.std.specs.Prelude.{Ok, Err}
 use Rattle.refusals.specs.Answer.{Answer, accepted, refused, is_accepted, ◌then◌, found_of, first_of, checked}
 
@@ -44,6 +45,16 @@ go_on f n a so_far sound = rw (add-one n, first_of, ← so_far, accepted-is a so
 
 pub stop : (f : ℕ → Answer) (n k : ℕ) (a : Answer) → k ≤ n → a ≡ first_of k f → is_accepted a ≡ false → a ≡ first_of n f
 stop f n k a h so_far found = so_far ∙ sym (found-stays n k f h (ap is_accepted (sym so_far) ∙ found))
+
+-- a loop that goes on only where there is none: with the next place's there is still none; a finding at the next place is that of all
+pub passes : (f : ℕ → Answer) (k : ℕ) → first_of k f ≡ accepted → f k ≡ accepted → first_of (k + 1) f ≡ accepted
+unfolding first_of ◌then◌
+passes f k none next = rw (add-one k, first_of, none, next)
+
+pub fails : (f : ℕ → Answer) (n k : ℕ) (e : Fault) → k < n → first_of k f ≡ accepted → f k ≡ Err e → first_of n f ≡ Err e
+fails f n k e below none found =
+    let here : first_of (k + 1) f ≡ Err e = sym (go_on f k accepted (sym none) refl) ∙ found in
+    found-stays n (k + 1) f (omega arith) (ap is_accepted here) ∙ here
 
 -- the order of findings is what counts, not how they are grouped
 pub then-assoc : (a b c : Answer) → (a then b then c) ≡ (a then (b then c))
