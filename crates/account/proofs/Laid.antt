@@ -1,5 +1,5 @@
 -- Groups of cells that are laid one behind the other, as a loop stores them.
-use mathlib.Core.Path.{◌≡◌, refl, ap₂, ◌∙◌}
+use mathlib.Core.Path.{◌≡◌, refl, sym, ap₂, ◌∙◌}
 use mathlib.Core.List.{List, [], ◌∷◌}
 use native.Mathlib.Nat.{add-zero, add-suc, suc-add}
 use native.Mathlib.Decide.{dec_lt}
@@ -9,6 +9,8 @@ use native.Mathlib.Omega.{arith}
 use lib.ListN.{length, get_or, set, length-set}
 use lib.Seq.{sets, length-sets, get_or-set_same, get_or-set_other}
 use borrow.Author.Tests.{lt-ltb, le-ltb}
+use borrow.Rule.Slice.PartMut.{put_mid}
+use Rattle.told.proofs.Cells.{mid-sets}
 use Rattle.parts.specs.declared.Charge.{Charge}
 use Rattle.parts.specs.declared.Part.{Part}
 use Rattle.parts.specs.declared.Part.TheVariants as part
@@ -22,6 +24,10 @@ module _ (at count i : ℕ) (group before : List ℕ) where
   pub stored-nowhere : count ≤ i → stored at count i group before ≡ before
   unfolding stored
   stored-nowhere l = rw (le-ltb i count l)
+
+  -- copied there as a slice
+  pub stored-mid : (k : ℕ) → length group ≡ k → at + group_cells * i + k ≤ length before → i < count → put_mid (at + group_cells * i) k before group ≡ stored at count i group before
+  stored-mid k size room l = mid-sets (at + group_cells * i) k before group size room ∙ sym (stored_there l)
 
 -- ---- a run of stores, cell by cell
 

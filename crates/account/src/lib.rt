@@ -2,10 +2,9 @@
 // charges in it and how the tasks of its own transaction stand from the critical instant on. How an answer is found is not known here.
 #![tactic(auto)]
 
-ghost use Rattle.std.specs.Prelude.{◌≡◌, [], ◌∷◌, ◌+◌, ◌≤◌};
-ghost use Rattle.std.proofs.lemmas.List.Edits.{sets};
+ghost use Rattle.std.specs.Prelude.{◌≡◌};
 ghost use Rattle.table.specs.Limits.{transactions_most, tasks_most};
-ghost use Rattle.account.specs.Account.{group_cells, charges_cell, shares_cell, account_cells, charge_cells, share_cells, stored};
+ghost use Rattle.account.specs.Account.{charges_cell, shares_cell, charge_cells, share_cells, stored};
 
 use parts::{Charge, Part, Parts};
 use refusals::Refusal;
@@ -53,13 +52,8 @@ impl Account {
             let Part::Charged(charge) = part else {
                 return;
             };
-            store(
-                cells,
-                Account::CHARGES + Charge::COUNT * i,
-                charge.ticks,
-                wide(charge.mode),
-                wide(charge.candidate),
-            );
+            let at = Account::CHARGES + Charge::COUNT * i;
+            cells[at..at + Charge::COUNT].copy_from_slice(&charge.listed());
         }
     }
 }
@@ -68,33 +62,20 @@ impl Share {
     // How many cells it takes, in the order of the fields.
     pub const COUNT: usize = 3;
 
+    // Each in its place.
+    fn listed(self) -> [u64; Share::COUNT]
+        ensures { result ≡ share_cells self }
+    {
+        [u64::from(self.phase), u64::from(self.held), self.ticks]
+    }
+
     // Stores it as that of the task at place j of its transaction, where a transaction has such a place.
     pub fn put(self, cells: &mut [u64; Account::CELLS], j: usize)
         ensures { cells.new ≡ stored shares_cell tasks_most j (share_cells self) cells.old }
     {
         if j < Transaction::TASKS {
-            store(
-                cells,
-                Account::SHARES + Share::COUNT * j,
-                wide(self.phase),
-                wide(self.held),
-                self.ticks,
-            );
+            let at = Account::SHARES + Share::COUNT * j;
+            cells[at..at + Share::COUNT].copy_from_slice(&self.listed());
         }
     }
-}
-
-fn store(cells: &mut [u64; Account::CELLS], at: usize, first: u64, second: u64, third: u64)
-    requires { at + group_cells ≤ account_cells }
-    ensures { cells.new ≡ sets cells.old at (first ∷ second ∷ third ∷ []) }
-{
-    cells[at] = first;
-    cells[at + 1] = second;
-    cells[at + 2] = third;
-}
-
-fn wide(x: u32) -> u64
-    ensures { result ≡ x }
-{
-    x as u64
 }

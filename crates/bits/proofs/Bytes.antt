@@ -8,7 +8,7 @@ use native.Mathlib.Omega.{arith}
 use lib.ListN.{get_or}
 use lib.Pow.{shr-shr}
 use Rattle.bits.specs.Bits.{bit_at, value_at}
-use Rattle.bits.proofs.Fields.{value-split}
+use Rattle.bits.proofs.Fields.{value-split, value-cut}
 
 pub zero_bits : (image : List ℕ) (p w : ℕ) → value_at image p w ≡ 0 → (k : ℕ) → k < w → bit_at image (p + k) ≡ 0
 unfolding value_at
@@ -48,6 +48,12 @@ module _ (image : List ℕ) (bytes : (k : ℕ) → get_or image k 0 < 256) where
       let place : 8 * i + 8 * n ≡ 8 * (i + n) = omega arith in
       rw (value-split image (8 * i) (8 * n) 8, place, byte-value image (i + n) (bytes (i + n)))
 
+  -- a byte more, by the number that the bytes before it say
+  pub byte-more : (i n : ℕ) {x b : ℕ} → x ≡ value_at image (8 * i) (8 * n) → b ≡ get_or image (i + n) 0 → x * 256 + b ≡ value_at image (8 * i) (8 * (n + 1))
+  byte-more i n said is =
+      let place : 8 * (n + 1) ≡ 8 * n + 8 = omega arith in
+      rw (place, next-byte i n, ← said, is)
+
   -- the numbers that four bytes say, and five
   pub four_bytes :
       (i : ℕ)
@@ -57,3 +63,22 @@ module _ (image : List ℕ) (bytes : (k : ℕ) → get_or image k 0 < 256) where
 
   pub five-bytes : (i : ℕ) → value_at image (8 * i) 40 ≡ value_at image (8 * i) 32 * 256 + get_or image (i + 4) 0
   five-bytes i = next-byte i 4
+
+  -- the number in a field, by the four bytes that it lies in, and by the five
+  pub within-four :
+      (i from w : ℕ) {x : ℕ}
+      → x ≡ get_or image i 0 * 16777216 + get_or image (i + 1) 0 * 65536 + get_or image (i + 2) 0 * 256 + get_or image (i + 3) 0
+      → from + w ≤ 32
+      → x / 2 ^ (32 - from - w) % 2 ^ w ≡ value_at image (8 * i + from) w
+  within-four i from w {x} four within =
+      let all : x ≡ value_at image (8 * i) 32 = omega (arith, four_bytes i) in
+      rw all (value-cut image (8 * i) from w 32 within)
+
+  pub within-five :
+      (i from w : ℕ) {x : ℕ}
+      → x ≡ get_or image i 0 * 16777216 + get_or image (i + 1) 0 * 65536 + get_or image (i + 2) 0 * 256 + get_or image (i + 3) 0
+      → from + w ≤ 40
+      → (x * 256 + get_or image (i + 4) 0) / 2 ^ (40 - from - w) % 2 ^ w ≡ value_at image (8 * i + from) w
+  within-five i from w {x} four within =
+      let all : x * 256 + get_or image (i + 4) 0 ≡ value_at image (8 * i) 40 = omega (arith, four_bytes i, five-bytes i) in
+      rw all (value-cut image (8 * i) from w 40 within)

@@ -5,7 +5,8 @@ use mathlib.Core.List.{List, [], ◌∷◌}
 use Prim.Native.Nat.{ℕ, ◌^◌}
 use Rattle.bits.specs.Bits.{bit_at, value_at, field_bits, field_at}
 use Rattle.bits.specs.Put.{bit_put, bits_put}
-use Rattle.bits.specs.declared.Field.TheVariants.{Holds, Ends, NoWidth}
+use Rattle.std.specs.Prelude.{Ok, Err}
+use Rattle.bits.specs.declared.NoField.TheVariants.{Ends, NoWidth}
 
 abbrev start : List ℕ
 start = 0x10 ∷ 0x00 ∷ 0x00 ∷ 0xA0 ∷ 0x40 ∷ []
@@ -18,19 +19,19 @@ frame : value_at start 4 24 ≡ 10
 unfolding value_at bit_at
 frame = refl
 
-transactions : field_at start 28 6 ≡ Holds 1
+transactions : field_at start 28 6 ≡ Ok 1
 unfolding field_at value_at bit_at
 transactions = refl
 
-to_the_end : field_at start 8 32 ≡ Holds 0xA040
+to_the_end : field_at start 8 32 ≡ Ok 0xA040
 unfolding field_at value_at bit_at
 to_the_end = refl
 
-one-bit-more : field_at start 9 32 ≡ Ends
+one-bit-more : field_at start 9 32 ≡ Err Ends
 unfolding field_at value_at bit_at
 one-bit-more = refl
 
-behind-the-end : field_at [] 0 1 ≡ Ends
+behind-the-end : field_at [] 0 1 ≡ Err Ends
 unfolding field_at value_at bit_at
 behind-the-end = refl
 
@@ -39,11 +40,11 @@ past_the_end : value_at start 33 10 ≡ 2 ^ 9
 unfolding value_at bit_at
 past_the_end = refl
 
-too_wide : field_at start 0 33 ≡ NoWidth
+too_wide : field_at start 0 33 ≡ Err NoWidth
 unfolding field_at value_at bit_at
 too_wide = refl
 
-no_bits : field_at start 0 0 ≡ NoWidth
+no_bits : field_at start 0 0 ≡ Err NoWidth
 unfolding field_at value_at bit_at
 no_bits = refl
 

@@ -1,7 +1,7 @@
 -- Fields of an image, a list of bytes: packed most significant bit first, with no gaps.
-use Rattle.std.specs.Prelude.{List, [], ◌∷◌, ◌++◌, Bool, true, false, ◌&&◌, ℕ, zero, suc, ◌+◌, ◌-◌, ◌*◌, ◌/◌, ◌%◌, ◌^◌, length, get_or, leb}
-use Rattle.bits.specs.declared.Field.{Field}
-use Rattle.bits.specs.declared.Field.TheVariants.{Holds, Ends, NoWidth}
+use Rattle.std.specs.Prelude.{List, [], ◌∷◌, ◌++◌, Bool, ◌&&◌, ℕ, zero, suc, ◌+◌, ◌-◌, ◌*◌, ◌/◌, ◌%◌, ◌^◌, length, get_or, leb, if◌then◌else◌, Result, Ok, Err}
+use Rattle.bits.specs.declared.NoField.{NoField}
+use Rattle.bits.specs.declared.NoField.TheVariants.{Ends, NoWidth}
 
 -- the widest field, in bits
 abbrev pub widest : ℕ
@@ -25,13 +25,9 @@ field_bits (suc w) v = field_bits w (v / 2) ++ (v % 2 ∷ [])
 abbrev pub is_inside : List ℕ → ℕ → ℕ → Bool
 is_inside image p w = leb (p + w) (8 * length image)
 
-abbrev pub pick_field : Bool → Field → Field → Field
-pick_field true a b = a
-pick_field false a b = b
-
 -- the field of w bits at p
-unfoldable pub field_at : List ℕ → ℕ → ℕ → Field
+unfoldable pub field_at : List ℕ → ℕ → ℕ → Result ℕ NoField
 field_at image p w =
-    pick_field (leb 1 w && leb w widest)
-    (pick_field (is_inside image p w) (Holds (value_at image p w)) Ends)
-    NoWidth
+    if leb 1 w && leb w widest
+    then (if is_inside image p w then Ok (value_at image p w) else Err Ends)
+    else Err NoWidth

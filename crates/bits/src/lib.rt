@@ -5,10 +5,9 @@
 ghost use Rattle.std.specs.Prelude.{◌≡◌, ◌+◌, ◌-◌, ◌*◌, ◌/◌, ◌%◌, ◌^◌, ◌<◌, ◌≤◌, min, length, get_or};
 ghost use Rattle.bits.specs.Bits.{widest, value_at, is_inside, field_at};
 
-// What stands in a field.
-#[derive(Clone, Copy)]
-pub enum Field {
-    Holds(u32),
+// Why no number stands in a field.
+#[derive(Clone, Copy, Debug, PartialEq, Eq)]
+pub enum NoField {
     // The image ends inside the field, or before it.
     Ends,
     // There is no field of such a width.
@@ -28,6 +27,7 @@ const FIVE_BYTES: usize = 40;
 const FOUR_BYTES: usize = 32;
 
 // Whether a field of any width lies in the image whole. No sum here can wrap, whatever the position and the width.
+#[tactic(auto, using(std::proofs::lemmas::Bool::Decides::nat_tests))]
 pub fn inside(image: &[u8], at: usize, width: usize) -> bool
     ensures { result ≡ is_inside image.now at width }
 {
@@ -57,14 +57,14 @@ pub fn moved<'a>(r: Reader<'a>, at: usize) -> Reader<'a>
 }
 
 // The field of that width at the reader's place.
-pub fn next<'a>(r: Reader<'a>, width: usize) -> Field
+pub fn next<'a>(r: Reader<'a>, width: usize) -> Result<u32, NoField>
     ensures { result ≡ field_at r.entry.image.now r.entry.at width }
 {
     field_at(r.image, r.at, width)
 }
 
 // The field of that width at that position, for any position and any width. A reader is made and asked here alone.
-pub fn read(image: &[u8], at: usize, width: usize) -> Field
+pub fn read(image: &[u8], at: usize, width: usize) -> Result<u32, NoField>
     ensures { result ≡ field_at image.now at width }
 {
     next(moved(new(image), at), width)
@@ -75,35 +75,32 @@ pub fn read(image: &[u8], at: usize, width: usize) -> Field
 pub fn value(image: &[u8], at: usize, width: usize) -> u32
     ensures { result ≡ value_at image.now at (min width widest) }
 {
-    let end = narrowed(width);
+    let width = width.min(WIDEST);
     // the reader's own test, asked here too: so that of its way only the quick part is laid into every caller
     if at / 8 + SPAN <= image.len() {
-        if let Field::Holds(v) = read(image, at, end) {
+        if let Ok(v) = read(image, at, width) {
             return v;
         }
     }
-    value_at(image, at, end)
+    value_at(image, at, width)
 }
 
 // Where five bytes are there the field is whole: one test serves both.
-fn field_at(image: &[u8], at: usize, width: usize) -> Field
+#[tactic(auto, using(std::proofs::lemmas::Bool::Decides::nat_tests), unfolding(crate::specs::Bits::field_at))]
+fn field_at(image: &[u8], at: usize, width: usize) -> Result<u32, NoField>
     ensures { result ≡ field_at image.now at width }
 {
-    if width == 0 {
-        return Field::NoWidth;
-    }
-    if WIDEST < width {
-        return Field::NoWidth;
+    if width == 0 || WIDEST < width {
+        return Err(NoField::NoWidth);
     }
     let first = at / 8;
     if first + SPAN <= image.len() {
-        return Field::Holds(value_in(image, first, at % 8, width));
+        return Ok(value_in(image, first, at % 8, width));
     }
-    let whole = inside(image, at, width);
-    if whole {
-        Field::Holds(value_at(image, at, width))
+    if inside(image, at, width) {
+        Ok(value_at(image, at, width))
     } else {
-        Field::Ends
+        Err(NoField::Ends)
     }
 }
 
@@ -114,20 +111,18 @@ fn value_in(image: &[u8], first: usize, from: usize, width: usize) -> u32
     requires width_le_widest { width ≤ widest }
     ensures { result ≡ value_at image.now (8 * first + from) width }
 {
-    let high = four(
+    // in 32 bits, so that the compiler makes one load of four bytes in a row
+    let four = u64::from(u32::from_be_bytes([
         image[first],
         image[first + 1],
         image[first + 2],
         image[first + 3],
-    );
+    ]));
     if width <= NARROW {
-        cut(high as u64, FOUR_BYTES - from - width, width)
+        cut(four, FOUR_BYTES - from - width, width)
     } else {
-        cut(
-            five(high, image[first + 4]),
-            FIVE_BYTES - from - width,
-            width,
-        )
+        let five = four * 256 + u64::from(image[first + 4]);
+        cut(five, FIVE_BYTES - from - width, width)
     }
 }
 
@@ -136,53 +131,21 @@ fn value_at(image: &[u8], at: usize, width: usize) -> u32
     ensures { result ≡ value_at image.now at (min width widest) }
 {
     let first = at / 8;
-    let w = narrowed(width);
-    let end = at % 8 + w;
+    let width = width.min(WIDEST);
+    let end = at % 8 + width;
     let bytes = (end + 7) / 8;
     let mut x: u64 = 0;
-    let mut k: usize = 0;
-    while k < bytes {
+    for k in 0..bytes {
         x = x * 256 + byte(image, first + k);
-        k += 1;
     }
-    cut(x, 8 * bytes - end, w)
-}
-
-fn narrowed(width: usize) -> usize
-    ensures { result ≡ min width widest }
-{
-    if width < WIDEST { width } else { WIDEST }
+    cut(x, 8 * bytes - end, width)
 }
 
 // A byte, 0 past the end of the image.
 fn byte(image: &[u8], i: usize) -> u64
     ensures { result ≡ get_or image.now i 0 }
 {
-    if i < image.len() {
-        wide(image[i]) as u64
-    } else {
-        0
-    }
-}
-
-// The number that four bytes say. In 32 bits, so that the compiler makes one load of four bytes in a row.
-fn four(a: u8, b: u8, c: u8, d: u8) -> u32
-    ensures { result ≡ ((a * 256 + b) * 256 + c) * 256 + d }
-{
-    ((wide(a) * 256 + wide(b)) * 256 + wide(c)) * 256 + wide(d)
-}
-
-// The number that five bytes say, by that of the first four.
-fn five(high: u32, e: u8) -> u64
-    ensures { result ≡ high * 256 + e }
-{
-    (high as u64) * 256 + wide(e) as u64
-}
-
-fn wide(x: u8) -> u32
-    ensures { result ≡ x }
-{
-    x as u32
+    image.get(i).map_or(0, |b| u64::from(*b))
 }
 
 // The bits of that many that stand before the last `down`.
@@ -191,12 +154,5 @@ fn cut(x: u64, down: usize, width: usize) -> u32
     requires width_le_widest { width ≤ widest }
     ensures { result ≡ x / 2 ^ down % 2 ^ width }
 {
-    ((x >> down) % power(width)) as u32
-}
-
-fn power(k: usize) -> u64
-    requires { k ≤ widest }
-    ensures { result ≡ 2 ^ k }
-{
-    1 << k
+    ((x >> down) % (1 << width)) as u32
 }

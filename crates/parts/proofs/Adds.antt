@@ -1,12 +1,11 @@
 -- The parts add up: what is told of a bound, and of each transaction's part in it, makes up the completion.
 use mathlib.Core.Path.{◌≡◌, refl, sym, ap, ◌∙◌, subst₂}
 use mathlib.Core.List.{List}
-use Prim.Native.Nat.{ℕ, ◌+◌, ◌≤◌, ◌<◌}
+use Prim.Native.Nat.{ℕ, ◌+◌, ◌<◌}
 use native.Mathlib.Decide.{ℕ_discrete}
 use native.Mathlib.Omega.{arith}
 use Rattle.table.specs.Sum.{sum}
 use Rattle.table.specs.Table.{Table, IsTask, transactions}
-use Rattle.table.specs.Number.{number}
 use Rattle.table.specs.Kept.{Kept}
 use Rattle.table.proofs.Number.{number-unique, number_lt}
 use Rattle.table.proofs.Sum.{sum-ext}
@@ -25,7 +24,7 @@ use Rattle.analysis.proofs.Who.{amount-greatest}
 use Rattle.parts.specs.declared.Parts.{Parts}
 use Rattle.parts.specs.declared.Made.TheVariants as made
 use Rattle.parts.specs.declared.Part.{Part}
-use Rattle.parts.specs.Parts.{OfImage, OfTask, parts_meant, MadeFor, Makes, ChargedBy, part_said, ticks_of, PartFor, HasPart}
+use Rattle.parts.specs.Parts.{OfImage, OfTask, MadeFor, Makes, ChargedBy, part_said, ticks_of, PartFor, HasPart}
 use Rattle.parts.proofs.Unique.{clash, one-made}
 
 -- what is told of the greatest charge has its ticks

@@ -1,16 +1,13 @@
 -- The part of a transaction is what it charges at the completion, and comes of two answers: what the bound is made of, and what the
 -- transaction charges by then.
-use mathlib.Core.Path.{◌≡◌, sym, ◌∙◌, subst₂}
+use mathlib.Core.Path.{sym, ◌∙◌, subst₂}
 use mathlib.Core.Bool.{false}
 use mathlib.Core.List.{List}
 use Prim.Native.Nat.{ℕ}
 use native.Mathlib.Omega.{arith}
 use Rattle.refusals.specs.declared.Refusal.{Refusal}
-use Rattle.table.specs.Table.{Table, IsTask}
-use Rattle.table.specs.Number.{number}
 use Rattle.table.proofs.Number.{number-unique, number_lt}
 use Rattle.periods.specs.Charge.{imposed}
-use Rattle.format.specs.Fault.{IsAccepted}
 use Rattle.format.specs.Said.{table_in}
 use Rattle.parts.specs.declared.Parts.{Parts}
 use Rattle.parts.specs.declared.Made.TheVariants as made

@@ -2,12 +2,11 @@
 use mathlib.Core.Path.{◌≡◌, refl, sym, ap, ap₂, ◌∙◌, subst, subst₂}
 use mathlib.Core.Bool.{Bool}
 use mathlib.Core.List.{List}
-use Prim.Native.Nat.{ℕ, ◌≤◌}
+use Prim.Native.Nat.{ℕ}
 use native.Mathlib.Omega.{arith}
 use Rattle.refusals.specs.declared.Refusal.{Refusal}
 use Rattle.refusals.specs.declared.Answer.TheVariants as answer
 use Rattle.table.specs.Table.{Table, IsTask}
-use Rattle.table.specs.Number.{in_all, number}
 use Rattle.table.specs.Kept.{Kept}
 use Rattle.table.proofs.Number.{number-unique, number_lt}
 use Rattle.format.specs.Fault.{image_fault, IsAccepted}
@@ -17,12 +16,11 @@ use Rattle.analysis.specs.Charge.{Later}
 use Rattle.analysis.specs.Order.{Source}
 use Rattle.analysis.specs.Parts as analysis
 use Rattle.analysis.specs.Parts.{MadeOf}
-use Rattle.analysis.specs.Answer.{Named, bound, named, Answers}
+use Rattle.analysis.specs.Answer.{bound, named, Answers}
 use Rattle.analysis.proofs.Answer.{answers-unique, bound-by-unique}
 use Rattle.analysis.proofs.Parts.{parts-unique}
 use Rattle.analysis.proofs.Who.{most-unique}
 use Rattle.charge.specs.Later.{later_of}
-use Rattle.parts.specs.declared.Parts.{Parts}
 use Rattle.parts.specs.declared.Made.{Made}
 use Rattle.parts.specs.declared.Made.TheVariants as made
 use Rattle.parts.specs.declared.Part.{Part}

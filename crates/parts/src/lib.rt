@@ -2,8 +2,7 @@
 // with a case for each thing that can be so; how an answer is found is not known here.
 #![tactic(auto)]
 
-ghost use Rattle.std.specs.Prelude.{◌≡◌, [], ◌∷◌, pos};
-ghost use Rattle.std.proofs.lemmas.List.Edits.{sets};
+ghost use Rattle.std.specs.Prelude.{◌≡◌};
 ghost use Rattle.parts.specs.Parts.{parts_listed, made_number, made_place, made_cells, charge_listed, part_number, part_place, part_cells};
 
 use refusals::Refusal;
@@ -26,33 +25,19 @@ impl Parts {
     // How many cells they take, in the order of the fields.
     pub const COUNT: usize = 6;
 
-    fn store(self, cells: &mut [i64; Parts::COUNT])
-        ensures { cells.new ≡ sets cells.old 0 (parts_listed self) }
+    // Each in its place.
+    fn listed(self) -> [i64; Parts::COUNT]
+        ensures { result ≡ parts_listed self }
     {
-        store_two(cells, self.completion, self.arrival);
-        store_four(cells, self.offset, self.blocking, self.jobs, self.rivals)
+        [
+            i64::from(self.completion),
+            self.arrival,
+            i64::from(self.offset),
+            i64::from(self.blocking),
+            i64::from(self.jobs),
+            i64::from(self.rivals),
+        ]
     }
-}
-
-fn store_two(cells: &mut [i64; Parts::COUNT], completion: u32, arrival: i64)
-    ensures { cells.new ≡ sets cells.old 0 (pos completion ∷ arrival ∷ []) }
-{
-    let first = completion as i64;
-    cells[0] = first;
-    cells[1] = arrival;
-}
-
-fn store_four(cells: &mut [i64; Parts::COUNT], a: u32, b: u32, c: u32, d: u32)
-    ensures { cells.new ≡ sets cells.old 2 (pos a ∷ pos b ∷ pos c ∷ pos d ∷ []) }
-{
-    let offset = a as i64;
-    let blocking = b as i64;
-    let jobs = c as i64;
-    let rivals = d as i64;
-    cells[2] = offset;
-    cells[3] = blocking;
-    cells[4] = jobs;
-    cells[5] = rivals;
 }
 
 // What the bound of one task is made of.
@@ -77,12 +62,11 @@ impl Charge {
     // How many cells they take, in the order of the fields.
     pub const COUNT: usize = 3;
 
-    fn store(self, cells: &mut [u64; Charge::COUNT])
-        ensures { cells.new ≡ sets cells.old 0 (charge_listed self) }
+    // Each in its place.
+    pub fn listed(self) -> [u64; Charge::COUNT]
+        ensures { result ≡ charge_listed self }
     {
-        cells[0] = self.ticks;
-        cells[1] = wide(self.mode);
-        cells[2] = wide(self.candidate);
+        [self.ticks, u64::from(self.mode), u64::from(self.candidate)]
     }
 }
 
@@ -100,12 +84,6 @@ pub enum Part {
     // None of its tasks is a rival.
     NoRivals,
     Charged(Charge),
-}
-
-fn wide(x: u32) -> u64
-    ensures { result ≡ x }
-{
-    x as u64
 }
 
 impl Made {
@@ -141,7 +119,7 @@ impl Made {
         match self {
             Made::Refused(_, _) => {}
             Made::NoBound => {}
-            Made::Of(parts) => parts.store(cells),
+            Made::Of(parts) => *cells = parts.listed(),
         }
     }
 }
@@ -193,7 +171,7 @@ impl Part {
             Part::Own => {}
             Part::NoTransaction => {}
             Part::NoRivals => {}
-            Part::Charged(charge) => charge.store(cells),
+            Part::Charged(charge) => *cells = charge.listed(),
         }
     }
 }

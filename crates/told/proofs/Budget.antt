@@ -7,7 +7,7 @@ use native.Mathlib.Decide.{dec_le}
 use native.Mathlib.Omega.{arith}
 use lib.ListN.{drop}
 use Rattle.table.specs.Table.{Table, deadline}
-use Rattle.table.specs.Number.{in_all, number}
+use Rattle.table.specs.Number.{in_all}
 use Rattle.table.specs.Kept.{Kept}
 use Rattle.table.proofs.Number.{number_lt}
 use Rattle.table.proofs.Lists.{joined_same}

@@ -5,8 +5,10 @@ use Prim.Native.Nat.{ℕ, suc, ◌+◌, ◌*◌, ◌≤◌, ◌<◌}
 use native.Mathlib.Omega.{arith}
 use borrow.Author.Tests.{le-leb, lt-leb}
 use lib.ListN.{length, get_or, take, drop, length-drop, length-append, get_or-append}
-use lib.Seq.{sets, ext_get_or, length-take-le, get_or-take, get_or-drop}
-use Rattle.table.specs.Lists.{list_of, joined}
+use borrow.Rule.Slice.PartMut.{put_mid}
+use lib.Seq.{sets, sets-eq, take-length, ext_get_or, length-take-le, get_or-take, get_or-drop}
+use Rattle.std.proofs.lemmas.Slice.{put_mid-paste}
+use Rattle.table.specs.Lists.{joined}
 use Rattle.table.proofs.Lists.{length-joined, get_or-joined, join-next}
 use Rattle.analysis.specs.Answer.{Cells}
 use Rattle.told.specs.Cells.{cells_of_task, listed, cells_in, stored}
@@ -34,6 +36,13 @@ listed-unique {c} {d} e =
       job = job i;
     }
 
+-- a write to a part of a list stores one behind the other
+pub mid-sets : (a k : ℕ) (xs ys : List ℕ) → length ys ≡ k → a + k ≤ length xs → put_mid a k xs ys ≡ sets xs a ys
+mid-sets a k xs ys e room =
+    let room : a + length ys ≤ length xs = omega arith in
+    put_mid-paste a k xs ys ys k refl refl (sym e)
+    ∙ rw (← e) (ap (λ (l : List ℕ). take a xs ++ l ++ drop (a + length ys) xs) (take-length ys) ∙ sym (sets-eq ys xs a room))
+
 -- ---- room
 
 module _ (cells : List ℕ) (k : ℕ) (c : Cells) where
@@ -44,16 +53,6 @@ module _ (cells : List ℕ) (k : ℕ) (c : Cells) where
   pub stored-nowhere : length cells < cells_of_task * suc k → stored cells k c ≡ cells
   unfolding stored
   stored-nowhere short = rw (lt-leb (cells_of_task * suc k) (length cells) short)
-
-  -- stored one by one from a list
-  pub stored-each :
-      (list : List ℕ)
-      → list ≡ listed c
-      → cells_of_task * suc k ≤ length cells
-      → sets cells (cells_of_task * k) (list_of cells_of_task (λ i. get_or list i 0)) ≡ stored cells k c
-  unfolding listed list_of
-  stored-each list is room =
-      ap (λ (l : List ℕ). sets cells (cells_of_task * k) (list_of cells_of_task (λ i. get_or l i 0))) is ∙ sym (stored_there room)
 
 -- ---- the cells of one task behind another's
 

@@ -5,6 +5,7 @@
 ghost use Rattle.std.specs.Prelude.{◌≡◌, length};
 ghost use Rattle.analysis.specs.Answer.{cells, unbounded};
 ghost use Rattle.told.specs.Cells.{has_room, listed, stored, are_kept};
+ghost use Rattle.told.specs.Code.{code_number, CodeOf};
 ghost use Rattle.told.specs.Answered.{meant, cells_meant};
 ghost use Rattle.told.specs.Told.{filled_number, filled_place, paired};
 
@@ -39,6 +40,51 @@ impl Filled {
     }
 }
 
+// What is said of a task, in the order of document 01's codes.
+#[derive(Clone, Copy, Debug, PartialEq, Eq)]
+pub enum Code {
+    Kept,
+    Late,
+    Overload,
+    Beyond,
+    Spent,
+}
+
+// A number that is no code.
+#[derive(Clone, Copy, Debug, PartialEq, Eq)]
+pub struct UnknownCode(pub u32);
+
+impl From<Code> for u32 {
+    ghost from_gives = { λ code r. r ≡ code_number code };
+
+    fn from(code: Code) -> u32 {
+        match code {
+            Code::Kept => TaskCells::KEPT,
+            Code::Late => TaskCells::LATE,
+            Code::Overload => TaskCells::OVERLOAD,
+            Code::Beyond => TaskCells::BEYOND,
+            Code::Spent => TaskCells::SPENT,
+        }
+    }
+}
+
+impl TryFrom<u32> for Code {
+    type Error = UnknownCode;
+
+    ghost try_from_gives = { CodeOf };
+
+    fn try_from(number: u32) -> Result<Code, UnknownCode> {
+        match number {
+            TaskCells::KEPT => Ok(Code::Kept),
+            TaskCells::LATE => Ok(Code::Late),
+            TaskCells::OVERLOAD => Ok(Code::Overload),
+            TaskCells::BEYOND => Ok(Code::Beyond),
+            TaskCells::SPENT => Ok(Code::Spent),
+            _ => Err(UnknownCode(number)),
+        }
+    }
+}
+
 // Who gave a bound: the mode, the candidate's number in the whole table, and the job, counted from the candidate's first.
 #[derive(Clone, Copy)]
 pub struct Named {
@@ -64,21 +110,24 @@ impl TaskAnswer {
         ensures { cells_meant result ≡ cells deadline (meant self) }
     {
         match self {
-            TaskAnswer::Bound(bound, evaluations, by) => TaskCells {
-                code: if bound <= deadline {
-                    TaskCells::KEPT
+            TaskAnswer::Bound(bound, evaluations, by) => {
+                let code = if bound <= deadline {
+                    Code::Kept
                 } else {
-                    TaskCells::LATE
-                },
-                bound,
-                evaluations,
-                mode: by.mode,
-                candidate: by.candidate,
-                job: by.job,
-            },
-            TaskAnswer::Overload => TaskCells::unbounded(TaskCells::OVERLOAD, 0),
-            TaskAnswer::Beyond(evaluations) => TaskCells::unbounded(TaskCells::BEYOND, evaluations),
-            TaskAnswer::Spent(evaluations) => TaskCells::unbounded(TaskCells::SPENT, evaluations),
+                    Code::Late
+                };
+                TaskCells {
+                    code: u32::from(code),
+                    bound,
+                    evaluations,
+                    mode: by.mode,
+                    candidate: by.candidate,
+                    job: by.job,
+                }
+            }
+            TaskAnswer::Overload => TaskCells::unbounded(Code::Overload, 0),
+            TaskAnswer::Beyond(evaluations) => TaskCells::unbounded(Code::Beyond, evaluations),
+            TaskAnswer::Spent(evaluations) => TaskCells::unbounded(Code::Spent, evaluations),
         }
     }
 }
@@ -124,11 +173,11 @@ impl TaskCells {
     pub const NO_BOUND: u32 = 0;
 
     // The cells of a task without a bound.
-    fn unbounded(code: u32, evaluations: u32) -> TaskCells
-        ensures { cells_meant result ≡ unbounded code evaluations }
+    fn unbounded(code: Code, evaluations: u32) -> TaskCells
+        ensures { cells_meant result ≡ unbounded (code_number code) evaluations }
     {
         TaskCells {
-            code,
+            code: u32::from(code),
             bound: TaskCells::NO_BOUND,
             evaluations,
             mode: TaskCells::NO_BOUND,
@@ -138,17 +187,18 @@ impl TaskCells {
     }
 
     // Each in its place.
+    #[tactic(auto, unfolding(crate::specs::Cells::listed))]
     fn listed(self) -> [u32; TaskCells::COUNT]
         ensures { result ≡ listed (cells_meant self) }
     {
-        let mut list = [0; TaskCells::COUNT];
-        list[TaskCells::CODE_CELL] = self.code;
-        list[TaskCells::BOUND_CELL] = self.bound;
-        list[TaskCells::EVALUATIONS_CELL] = self.evaluations;
-        list[TaskCells::MODE_CELL] = self.mode;
-        list[TaskCells::CANDIDATE_CELL] = self.candidate;
-        list[TaskCells::JOB_CELL] = self.job;
-        list
+        [
+            self.code,
+            self.bound,
+            self.evaluations,
+            self.mode,
+            self.candidate,
+            self.job,
+        ]
     }
 
     // Whether so many cells are enough for so many tasks.
@@ -163,13 +213,8 @@ impl TaskCells {
         ensures { cells.new ≡ stored cells.old k (cells_meant self) }
     {
         if k < cells.len() / TaskCells::COUNT {
-            let list = self.listed();
             let at = TaskCells::COUNT * k;
-            let mut i: usize = 0;
-            while i < TaskCells::COUNT {
-                cells[at + i] = list[i];
-                i += 1;
-            }
+            cells[at..at + TaskCells::COUNT].copy_from_slice(&self.listed());
         }
     }
 
@@ -177,8 +222,7 @@ impl TaskCells {
     pub fn all_kept(cells: &[u32], tasks: usize) -> bool
         ensures { result ≡ are_kept cells.now tasks }
     {
-        let mut k: usize = 0;
-        while k < tasks {
+        for k in 0..tasks {
             if cells.len() / TaskCells::COUNT <= k {
                 return false;
             }
@@ -186,21 +230,15 @@ impl TaskCells {
             if code != TaskCells::KEPT {
                 return false;
             }
-            k += 1;
         }
         true
     }
 }
 
-fn wide(x: u32) -> u64
-    ensures { result ≡ x }
-{
-    x as u64
-}
-
 // Code and bound, or number and place, in one number.
+#[tactic(auto, unfolding(crate::specs::Told::paired))]
 pub fn pair(upper: u32, lower: u32) -> u64
     ensures { result ≡ paired upper lower }
 {
-    wide(upper) * 4_294_967_296 + wide(lower)
+    u64::from(upper) * 4_294_967_296 + u64::from(lower)
 }

@@ -1,13 +1,9 @@
 -- `Account::put_charge` stores a charge in the cells of its transaction; a transaction that charges nothing has none to store.
-use mathlib.Core.Path.{sym, ap, ap₂, ◌∙◌}
-use mathlib.Core.List.{[], ◌∷◌}
-use Prim.Native.Nat.{ℕ, ◌+◌, ◌*◌}
-use native.Mathlib.Omega.{arith}
-use lib.Seq.{sets}
+use Rattle.std.proofs.Common.{◌∙◌, sym, arith}
 use Rattle.table.specs.Limits.{transactions_most}
-use Rattle.parts.specs.declared.Part.{Part}
-use Rattle.account.specs.Account.{group_cells, charges_cell, charge_cells}
-use Rattle.account.proofs.Laid.{stored_there, stored-nowhere, no-charge}
+use Rattle.account.specs.Account.{charges_cell, charge_cells}
+use Rattle.parts.specs.Parts.{charge_listed}
+use Rattle.account.proofs.Laid.{stored_there, stored-mid, stored-nowhere, no-charge}
 use Rattle.account.proofs.Account.put_charge.Goals as goal
 
 pub returns-in_default : goal.returns-in_default
@@ -17,15 +13,10 @@ returns-in_default c =
 
 pub returns-in-Charged : goal.returns-in-Charged
 returns-in-Charged c =
-    let p = c in
-    let a = p.args in
-    let w = c in
-    let charge = p.in-Charged.charge in
-    let at = charges_cell + group_cells * a.i in
-    c.store.ensures
-    ∙ ap₂ (λ (m n : ℕ). sets a.cells.now at (charge.ticks ∷ m ∷ n ∷ [])) w.wide.ensures w.wide-then-i-lt-TRANSACTIONS.ensures
-    ∙ ap (λ (x : Part). sets a.cells.now at (charge_cells x)) (sym p.in-Charged.is)
-    ∙ sym (stored_there charges_cell transactions_most a.i (charge_cells a.part) a.cells.now (omega arith))
+    let a = c.args in
+    let x = c.in-Charged in
+    rw (c.copy_from_slice.ensures.after ∙ c.listed.ensures, x.is)
+    (stored-mid charges_cell transactions_most a.i (charge_listed x.charge) a.cells.now _ (omega arith) (omega arith) (omega arith))
 
 pub returns-else-i-lt-TRANSACTIONS : goal.returns-else-i-lt-TRANSACTIONS
 returns-else-i-lt-TRANSACTIONS c =

@@ -6,20 +6,18 @@ use Rattle.analysis.specs.Answer.{cells}
 use Rattle.told.specs.Answered.{named_meant, meant}
 use Rattle.told.proofs.Answered.{kept-cells, late-cells}
 use Rattle.told.proofs.TaskAnswer.cells.Goals as goal
+use Rattle.told.proofs.TaskAnswer.cells.Goals.{then-bound-deadline, else-bound-deadline}
 
-pub returns-then-bound-deadline : goal.returns-then-bound-deadline
+pub returns-after-bound-deadline : goal.returns-after-bound-deadline
 unfolding meant
-returns-then-bound-deadline c =
+returns-after-bound-deadline c =
     let x = c.in-Bound in
-    rw x.is
-    (sym (kept-cells x.bound x.evaluations (named_meant x.by) c.args.deadline (omega arith)))
-
-pub returns-else-bound-deadline : goal.returns-else-bound-deadline
-unfolding meant
-returns-else-bound-deadline c =
-    let x = c.in-Bound in
-    rw x.is
-    (sym (late-cells x.bound x.evaluations (named_meant x.by) c.args.deadline (omega arith)))
+    let by = named_meant x.by in
+    rw (c.from.ensures, x.is)
+    (elim c.if-bound-deadline.branch [
+      | then-bound-deadline w ↦ rw w.code-is (sym (kept-cells x.bound x.evaluations by c.args.deadline (omega (arith, w.if-bound-deadline.true))))
+      | else-bound-deadline w ↦ rw w.code-is (sym (late-cells x.bound x.evaluations by c.args.deadline (omega (arith, w.if-bound-deadline.false))))
+    ])
 
 pub returns-in-Overload : goal.returns-in-Overload
 unfolding cells meant

@@ -1,17 +1,12 @@
 -- `TaskCells::all_kept` meets its contract. The invariant: the tasks before k are kept.
-use mathlib.Core.Path.{◌≡◌, refl, sym}
-use mathlib.Core.Bool.{true}
-use Prim.Native.Nat.{◌+◌, ◌*◌, ◌-◌, zero-le}
-use native.Mathlib.Numerals.{add-one}
-use native.Mathlib.Omega.{arith}
-use lib.ListN.{get_or}
+use Rattle.std.proofs.Common.{◌≡◌, refl, sym, ◌+◌, ◌*◌, get_or, add-one, arith}
 use Rattle.told.specs.Cells.{cells_of_task, are_kept}
 use Rattle.told.proofs.Verdict.{kept_here, no_cells, other-code, kept_next, not-kept}
 use Rattle.told.proofs.TaskCells.all_kept.Goals as goal
 
 pub loop-k-init : goal.loop-k-init
 unfolding are_kept
-loop-k-init c = (zero-le, refl)
+loop-k-init c = refl
 
 pub returns-then-cells-k : goal.returns-then-cells-k
 returns-then-cells-k c =
@@ -34,9 +29,4 @@ loop-k-preserved c =
     let there : cells_of_task * k + 0 ≡ cells_of_task * k = omega arith in
     let code : get_or x.cells.now (cells_of_task * k) 0 ≡ 0 = rw (← there) (omega (arith, c.if-code-ne-KEPT.false)) in
     let this = kept_here x.cells.now k (omega arith) code in
-    (omega arith, rw add-one (kept_next x.cells.now k c.loop-k.invariant.1 this))
-
-pub returns : goal.returns
-returns c =
-    let past : c.loop-k.k ≡ c.args.tasks = omega arith in
-    rw (← past) (sym c.loop-k.invariant.1)
+    rw add-one (kept_next x.cells.now k c.loop-k.invariant this)
