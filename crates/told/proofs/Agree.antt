@@ -13,16 +13,14 @@ use Rattle.table.specs.Kept.{Kept}
 use Rattle.table.proofs.Number.{number_lt}
 use Rattle.table.proofs.Lists.{joined_same}
 use Rattle.refusals.specs.declared.Refusal.{Refusal}
-use Rattle.refusals.specs.declared.Answer.TheVariants.{Refused}
-use Rattle.refusals.specs.Answer.{refusal_number}
+use Rattle.refusals.specs.declared.Fault.{Fault}
+use Rattle.refusals.specs.Answer.{refused, fault_at, refusal_number}
 use Rattle.format.specs.Fault.{image_fault, IsAccepted}
 use Rattle.format.specs.Said.{table_in}
 use Rattle.format.proofs.Kept.{kept}
 use Rattle.analysis.specs.Answer.{Cells}
-use Rattle.told.specs.declared.Filled.{Filled}
-use Rattle.told.specs.declared.Filled.TheVariants as filled
 use Rattle.told.specs.Cells.{cells_of_task, listed, cells_in, code_in}
-use Rattle.told.specs.Told.{filled_number, filled_place, OwedAt, Written, FillsFrom, Fills, paired, RespondsFrom, Responds}
+use Rattle.told.specs.Told.{Filling, filled, filled_number, filled_place, OwedAt, Written, FillsFrom, Fills, paired, RespondsFrom, Responds}
 use Rattle.told.proofs.Cells.{listed-unique, length-told, told_in}
 use Rattle.told.proofs.Told.{place-small, owed-bound, owed-one}
 
@@ -67,20 +65,22 @@ module _ {tab : Table} (keeps : Kept tab) {budget : ℕ} {before after : List �
 
 -- ---- the contract of `cells`
 
-pub clash : (image : List ℕ) {refusal : Refusal} {at : ℕ} → image_fault image ≡ Refused refusal at → IsAccepted image → ⊥
+pub clash : (image : List ℕ) {refusal : Refusal} {at : ℕ} → image_fault image ≡ refused refusal at → IsAccepted image → ⊥
 clash image e ok = let z : ◌≡◌ {A = ℕ} 0 1 = cc in omega arith
 
 pub refused-unique :
     (image : List ℕ) {x y : Refusal} {n m : ℕ}
-    → image_fault image ≡ Refused x n
-    → image_fault image ≡ Refused y m
+    → image_fault image ≡ refused x n
+    → image_fault image ≡ refused y m
     → (x ≡ y) × (n ≡ m)
-refused-unique image h k = (cc, cc)
+refused-unique image {x} {y} {n} {m} h k =
+    let same : fault_at x n ≡ fault_at y m = cc in
+    (ap (λ (f : Fault). f.refusal) same, ap (λ (f : Fault). f.place) same)
 
 fills-from-unique :
     {tab : Table}
     → Kept tab
-    → {budget : ℕ} {before after other : List ℕ} {r q : Filled}
+    → {budget : ℕ} {before after other : List ℕ} {r q : Filling}
     → FillsFrom tab budget before after r
     → FillsFrom tab budget before other q
     → (r ≡ q) × (after ≡ other)
@@ -91,13 +91,13 @@ fills-from-unique keeps (FillsFrom.done w) (FillsFrom.done v) = (refl, written-u
 
 -- one answer, and one row of cells after it
 pub fills-unique :
-    {image : List ℕ} {budget : ℕ} {before after other : List ℕ} {r q : Filled}
+    {image : List ℕ} {budget : ℕ} {before after other : List ℕ} {r q : Filling}
     → Fills image budget before after r
     → Fills image budget before other q
     → (r ≡ q) × (after ≡ other)
 fills-unique {image} (Fills.refused h e) (Fills.refused k f) =
     let (s, t) = refused-unique image h k in
-    (ap₂ filled.Refused s t, e ∙ sym f)
+    (ap₂ refused s t, e ∙ sym f)
 fills-unique {image} (Fills.refused h e) (Fills.accepted ok f) = absurd (clash image h ok)
 fills-unique {image} (Fills.accepted ok f) (Fills.refused h e) = absurd (clash image h ok)
 fills-unique {image} (Fills.accepted ok f) (Fills.accepted yet g) = fills-from-unique (kept image ok) f g
@@ -105,7 +105,7 @@ fills-unique {image} (Fills.accepted ok f) (Fills.accepted yet g) = fills-from-u
 -- where it is done, they are the cells of the tasks in order of number, then what was there
 pub fills-joined :
     {image : List ℕ} {budget n : ℕ} {before after : List ℕ}
-    → Fills image budget before after (filled.Done n)
+    → Fills image budget before after (filled n)
     → (told : ℕ → Cells)
     → ((k : ℕ) → k < in_all (table_in image) → OwedAt (table_in image) k budget (told k))
     → after ≡ joined (in_all (table_in image)) (λ k. listed (told k)) ++ drop (cells_of_task * in_all (table_in image)) before
@@ -143,7 +143,7 @@ responds-unique {image} (Responds.accepted ok f) (Responds.accepted yet g) = res
 -- the host's number for a task is made of the task's code and bound in the cells
 pub agree :
     {image : List ℕ} {task budget r n : ℕ} {before after : List ℕ} (c : Cells)
-    → Fills image budget before after (filled.Done n)
+    → Fills image budget before after (filled n)
     → task < in_all (table_in image)
     → cells_in after task ≡ listed c
     → Responds image task budget r
@@ -155,7 +155,7 @@ agree {image} {task} c (Fills.accepted ok (FillsFrom.done w)) l e x =
 
 -- and of a refused image both tell the number and the place
 pub agree-refused :
-    {image : List ℕ} {r task budget b : ℕ} {before after : List ℕ} {f : Filled}
+    {image : List ℕ} {r task budget b : ℕ} {before after : List ℕ} {f : Filling}
     → ¬ (IsAccepted image)
     → Fills image b before after f
     → Responds image task budget r
@@ -172,7 +172,7 @@ paired-parts x y h = (omega arith, omega arith)
 -- of a refused image: the number, and the place
 pub refused-parts :
     (image : List ℕ) {refusal : Refusal} {at task budget r : ℕ}
-    → image_fault image ≡ Refused refusal at
+    → image_fault image ≡ refused refusal at
     → Responds image task budget r
     → (r / 2 ^ 32 ≡ refusal_number refusal) × (r % 2 ^ 32 ≡ at)
 refused-parts image h x = rw (responds-unique x (Responds.refused h)) (paired-parts _ _ (place-small image h))

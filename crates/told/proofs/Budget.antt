@@ -11,17 +11,15 @@ use Rattle.table.specs.Number.{in_all}
 use Rattle.table.specs.Kept.{Kept}
 use Rattle.table.proofs.Number.{number_lt}
 use Rattle.table.proofs.Lists.{joined_same}
-use Rattle.refusals.specs.Answer.{refusal_number}
+use Rattle.refusals.specs.Answer.{refused, refusal_number}
 use Rattle.format.specs.Said.{table_in}
 use Rattle.format.proofs.Kept.{kept}
 use Rattle.analysis.specs.Answer as definition
 use Rattle.analysis.specs.Answer.{Cells, cells, code_by, spent}
 use Rattle.analysis.proofs.Answer.{answers-unique}
 use Rattle.analysis.proofs.Budget.{answers-greater, answers-spent}
-use Rattle.told.specs.declared.Filled.{Filled}
-use Rattle.told.specs.declared.Filled.TheVariants as filled
 use Rattle.told.specs.Cells.{cells_of_task, listed, cells_in}
-use Rattle.told.specs.Told.{Owed, OwedAt, Written, FillsFrom, Fills, paired, RespondsFrom, Responds}
+use Rattle.told.specs.Told.{Filling, filled, Owed, OwedAt, Written, FillsFrom, Fills, paired, RespondsFrom, Responds}
 use Rattle.told.specs.Budget.{IsSpent, Unaltered}
 use Rattle.told.proofs.Told.{owed-bound, owed-to}
 use Rattle.told.proofs.Agree.{written_in, written-code, written_behind, clash, refused-unique, paired-parts}
@@ -83,10 +81,10 @@ unaltered {tasks} e =
 
 module _ {image : List ℕ} {b d : ℕ} (l : b ≤ d) {before after other : List ℕ} where
   -- the answer is the same, and no task's cells are altered unless its code was 23, nor any cell behind
-  pub greater-row : {r q : Filled} → Fills image b before after r → Fills image d before other q → (r ≡ q) × Unaltered (in_all (table_in image)) after other
+  pub greater-row : {r q : Filling} → Fills image b before after r → Fills image d before other q → (r ≡ q) × Unaltered (in_all (table_in image)) after other
   greater-row (Fills.refused h e) (Fills.refused k f) =
       let (s, t) = refused-unique image h k in
-      (ap₂ filled.Refused s t, unaltered (f ∙ sym e))
+      (ap₂ refused s t, unaltered (f ∙ sym e))
   greater-row (Fills.refused h e) (Fills.accepted ok f) = absurd (clash image h ok)
   greater-row (Fills.accepted ok f) (Fills.refused h e) = absurd (clash image h ok)
   greater-row (Fills.accepted ok (FillsFrom.short h e)) (Fills.accepted yet (FillsFrom.short k f)) = (refl, unaltered (f ∙ sym e))
@@ -99,8 +97,8 @@ module _ {image : List ℕ} {b d : ℕ} (l : b ≤ d) {before after other : List
   -- where no task has 23 the greater budget leaves the same row
   pub greater-same :
       {n m : ℕ}
-      → Fills image b before after (filled.Done n)
-      → Fills image d before other (filled.Done m)
+      → Fills image b before after (filled n)
+      → Fills image d before other (filled m)
       → ((k : ℕ) → k < in_all (table_in image) → ¬ (IsSpent after k))
       → other ≡ after
   greater-same (Fills.accepted ok (FillsFrom.done w)) (Fills.accepted yet (FillsFrom.done v)) free =
@@ -113,8 +111,8 @@ module _ {image : List ℕ} {b d : ℕ} (l : b ≤ d) {before after other : List
 pub greater-cells :
     {image : List ℕ} {b d n m : ℕ} {before raw after other : List ℕ}
     → b ≤ d
-    → Fills image b before after (filled.Done n)
-    → Fills image d raw other (filled.Done m)
+    → Fills image b before after (filled n)
+    → Fills image d raw other (filled m)
     → (k : ℕ)
     → k < n
     → ¬ (IsSpent after k)

@@ -17,9 +17,8 @@ use Rattle.analysis.specs.Answer as definition
 use Rattle.analysis.specs.Answer.{Cells, cells, code_by}
 use Rattle.runs.specs.Promise.{Safe}
 use Rattle.runs.proofs.Demand.{safe-later}
-use Rattle.told.specs.declared.Filled.TheVariants as filled
 use Rattle.told.specs.Cells.{cells_of_task, listed, code_in, are_kept}
-use Rattle.told.specs.Told.{Owed, Written, FillsFrom, Fills, InTime}
+use Rattle.told.specs.Told.{filled, Owed, Written, FillsFrom, Fills, InTime}
 use Rattle.told.proofs.Cells.{length-told}
 use Rattle.told.proofs.Verdict.{kept_here, kept_next, kept-code, kept-each}
 use Rattle.told.proofs.Told.{owed-to}
@@ -64,7 +63,7 @@ module _ {tab : Table} (keeps : Kept tab) {budget : ℕ} {before after : List �
 -- where every code of an accepted image is 0, every task keeps its deadline
 pub kept-in-time :
     {image : List ℕ} {budget n : ℕ} {before after : List ℕ}
-    → Fills image budget before after (filled.Done n)
+    → Fills image budget before after (filled n)
     → are_kept after n ≡ true
     → InTime (table_in image)
 kept-in-time {image} (Fills.accepted ok (FillsFrom.done w)) all = written-kept (kept image ok) w all
@@ -72,7 +71,7 @@ kept-in-time {image} (Fills.accepted ok (FillsFrom.done w)) all = written-kept (
 -- and the test says so: it fails only for a code that is not 0
 pub codes-kept :
     {image : List ℕ} {budget n : ℕ} {before after : List ℕ}
-    → Fills image budget before after (filled.Done n)
+    → Fills image budget before after (filled n)
     → ((k : ℕ) → k < n → code_in after k ≡ 0)
     → are_kept after n ≡ true
 codes-kept {image} {n = n} (Fills.accepted ok (FillsFrom.done w)) zeroed = written-codes (kept image ok) w zeroed n (omega arith)

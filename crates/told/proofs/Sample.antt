@@ -9,7 +9,7 @@ use Rattle.table.specs.Table.{Table, IsTask, deadline}
 use Rattle.table.specs.Number.{in_all, number}
 use Rattle.table.specs.Kept.{Kept}
 use Rattle.table.specs.Sample.{S}
-use Rattle.refusals.specs.declared.Answer.TheVariants.{Refused}
+use Rattle.refusals.specs.Answer.{refused}
 use Rattle.refusals.specs.declared.Refusal.TheVariants.{EndsInside}
 use Rattle.table.specs.Lists.{joined}
 use Rattle.format.specs.Said.{table_in}
@@ -22,10 +22,8 @@ use Rattle.analysis.specs.Walk.{answer}
 use Rattle.analysis.specs.Computing.{computing}
 use Rattle.analysis.proofs.Charges.{imposed-fair}
 use Rattle.analysis.proofs.Budget.{greater-budget}
-use Rattle.told.specs.declared.Filled.{Filled}
-use Rattle.told.specs.declared.Filled.TheVariants as filled
 use Rattle.told.specs.Cells.{listed}
-use Rattle.told.specs.Told.{Owed, OwedAt, FillsFrom, Fills, paired, RespondsFrom, Responds}
+use Rattle.told.specs.Told.{Filling, filled, Owed, OwedAt, FillsFrom, Fills, paired, RespondsFrom, Responds}
 use Rattle.told.specs.Budget.{five, six}
 use Rattle.told.proofs.Told.{owed}
 use Rattle.told.proofs.Agree.{written-joined, fills-unique, responds-unique}
@@ -46,7 +44,7 @@ pub S-table : table_in image_s ≡ S
 unfolding reading
 S-table = refl
 
-pub empty-refused : image_fault [] ≡ Refused EndsInside 0
+pub empty-refused : image_fault [] ≡ refused EndsInside 0
 unfolding reading
 empty-refused = refl
 
@@ -74,17 +72,17 @@ cells_s (suc (suc k)) = record { code = 20; bound = 5; evaluations = 6; mode = 0
 
 -- the row of S where its tasks are owed these cells: six a task, and then what was there
 S-row :
-    {budget : ℕ} {before after : List ℕ} {r : Filled} (told : ℕ → Cells)
+    {budget : ℕ} {before after : List ℕ} {r : Filling} (told : ℕ → Cells)
     → ((k : ℕ) → k < in_all S → OwedAt S k budget (told k))
     → 18 ≤ length before
     → Fills image_s budget before after r
-    → (r ≡ filled.Done 3) × (after ≡ joined 3 (λ k. listed (told k)) ++ drop 18 before)
+    → (r ≡ filled 3) × (after ≡ joined 3 (λ k. listed (told k)) ++ drop 18 before)
 unfolding computing
 S-row told each room (Fills.refused h e) = let z : ◌≡◌ {A = ℕ} 0 1 = cc S-accepted in absurd (omega arith)
 S-row {budget} {before} {after} {r} told each room (Fills.accepted ok f) =
     go (subst (λ (tab : Table). FillsFrom tab budget before after r) S-table f)
   where
-    go : {q : Filled} → FillsFrom S budget before after q → (q ≡ filled.Done 3) × (after ≡ joined 3 (λ k. listed (told k)) ++ drop 18 before)
+    go : {q : Filling} → FillsFrom S budget before after q → (q ≡ filled 3) × (after ≡ joined 3 (λ k. listed (told k)) ++ drop 18 before)
     go (FillsFrom.short l e) = absurd (omega arith)
     go (FillsFrom.done w) = (refl, written-joined S-kept w told each)
 
@@ -109,10 +107,10 @@ module _ {budget : ℕ} (enough : 6 ≤ budget) where
 
   -- the listing of S
   pub S-cells :
-      {before after : List ℕ} {r : Filled}
+      {before after : List ℕ} {r : Filling}
       → 18 ≤ length before
       → Fills image_s budget before after r
-      → (r ≡ filled.Done 3) × (after ≡ six ++ drop 18 before)
+      → (r ≡ filled 3) × (after ≡ six ++ drop 18 before)
   unfolding joined listed cells_s six
   S-cells = S-row cells_s each
 
@@ -142,10 +140,10 @@ each_short (suc (suc (suc k))) l = absurd (omega arith)
 
 -- so its code is 23 in the listing
 pub S-cells-short :
-    {before after : List ℕ} {r : Filled}
+    {before after : List ℕ} {r : Filling}
     → 18 ≤ length before
     → Fills image_s 5 before after r
-    → (r ≡ filled.Done 3) × (after ≡ five ++ drop 18 before)
+    → (r ≡ filled 3) × (after ≡ five ++ drop 18 before)
 unfolding joined listed cells_short cells_s five
 S-cells-short = S-row cells_short each_short
 
@@ -159,9 +157,9 @@ S-short x = responds-unique x
 
 -- the empty image is refused with 1 at place 0, and leaves every cell
 pub empty-cells :
-    {budget : ℕ} {before after : List ℕ} {r : Filled}
+    {budget : ℕ} {before after : List ℕ} {r : Filling}
     → Fills [] budget before after r
-    → (r ≡ filled.Refused EndsInside 0) × (after ≡ before)
+    → (r ≡ refused EndsInside 0) × (after ≡ before)
 empty-cells x = fills-unique x (Fills.refused empty-refused refl)
 
 pub empty-number : {task budget r : ℕ} → Responds [] task budget r → r ≡ paired 1 0

@@ -12,8 +12,7 @@ use Rattle.table.specs.Lists.{joined}
 use Rattle.table.specs.Kept.{Kept}
 use Rattle.table.proofs.Number.{place, number-unique}
 use Rattle.refusals.specs.declared.Refusal.{Refusal}
-use Rattle.refusals.specs.declared.Answer.TheVariants.{Refused}
-use Rattle.refusals.specs.Answer.{answer_place}
+use Rattle.refusals.specs.Answer.{refused, answer_place}
 use Rattle.format.specs.Fault.{image_fault}
 use Rattle.format.proofs.Reach.{furthest}
 use Rattle.periods.specs.Charge.{imposed}
@@ -29,7 +28,7 @@ use Rattle.told.specs.Told.{Owed, OwedAt, Written}
 use Rattle.told.proofs.Cells.{length-told, told-next, stored_there}
 
 -- the place of a refusal fits 32 bits
-pub place-small : (image : List ℕ) {refusal : Refusal} {at : ℕ} → image_fault image ≡ Refused refusal at → at < 2 ^ 32
+pub place-small : (image : List ℕ) {refusal : Refusal} {at : ℕ} → image_fault image ≡ refused refusal at → at < 2 ^ 32
 place-small image e = omega (arith, furthest image, ap answer_place e)
 
 -- ---- what a task is owed

@@ -1,29 +1,37 @@
 -- What the library tells its callers: the cells of every task of an accepted image, or a refusal; and the C host's number.
-use Rattle.std.specs.Prelude.{◌≡◌, List, ◌++◌, ℕ, ◌+◌, ◌*◌, ◌^◌, ◌≤◌, ◌<◌, length, drop}
+use Rattle.std.specs.Prelude.{◌≡◌, List, ◌++◌, ℕ, ◌+◌, ◌*◌, ◌^◌, ◌≤◌, ◌<◌, length, drop, Result, Ok}
 use Rattle.table.specs.Table.{Table, IsTask, deadline}
 use Rattle.table.specs.Number.{in_all, number}
 use Rattle.table.specs.Lists.{joined}
 use Rattle.refusals.specs.declared.Refusal.{Refusal}
 use Rattle.refusals.specs.declared.Refusal.TheVariants.{NoRoom, NoTask}
-use Rattle.refusals.specs.declared.Answer.TheVariants.{Refused}
-use Rattle.refusals.specs.Answer.{refusal_number}
+use Rattle.refusals.specs.declared.Fault.{Fault}
+use Rattle.refusals.specs.Answer as said
+use Rattle.refusals.specs.Answer.{refusal_number, number_of, place_of}
 use Rattle.format.specs.Fault.{image_fault, IsAccepted}
 use Rattle.format.specs.Said.{table_in}
 use Rattle.analysis.specs.Answer.{Named, Answer, bound, Cells, cells, Answers}
 use Rattle.analysis.specs.Bound.{Tight}
 use Rattle.runs.specs.Promise.{Safe}
 use Rattle.told.specs.declared.Filled.{Filled}
-use Rattle.told.specs.declared.Filled.TheVariants as filled
 use Rattle.told.specs.Cells.{cells_of_task, listed}
 
--- document 01's number and place for each answer
-abbrev pub filled_number : Filled → ℕ
-filled_number (filled.Done tasks) = 0
-filled_number (filled.Refused refusal at) = refusal_number refusal
+-- what became of the lent cells: so many tasks have theirs, or they are refused
+abbrev pub Filling : Type 0
+Filling = Result Filled Fault
 
-abbrev pub filled_place : Filled → ℕ
-filled_place (filled.Done tasks) = 0
-filled_place (filled.Refused refusal at) = at
+abbrev pub filled : ℕ → Filling
+filled tasks = Ok (record { tasks = tasks })
+
+-- document 01's number and place for each answer
+abbrev pub filled_case : Filled → ℕ
+filled_case f = 0
+
+abbrev pub filled_number : Filling → ℕ
+filled_number r = number_of r
+
+abbrev pub filled_place : Filling → ℕ
+filled_place r = place_of filled_case r
 
 -- c is what task a of u is owed: document 01's answer under the budget, and where that is a bound, demand 3 of it
 pub record Owed (tab : Table) (u a budget : ℕ) (c : Cells) : Type 0 where
@@ -50,15 +58,15 @@ pub record Written (tab : Table) (budget : ℕ) (before after : List ℕ) : Type
 
 -- FillsFrom tab budget before after r: of that table, with r as the answer, the cells were `before` and are `after`. With
 -- fewer cells than the tasks have every cell stays as it was
-pub data FillsFrom (tab : Table) (budget : ℕ) (before after : List ℕ) : Filled → Type 0 where
-  short : length before < cells_of_task * in_all tab → after ≡ before → FillsFrom tab budget before after (filled.Refused NoRoom 0)
-  done : Written tab budget before after → FillsFrom tab budget before after (filled.Done (in_all tab))
+pub data FillsFrom (tab : Table) (budget : ℕ) (before after : List ℕ) : Filling → Type 0 where
+  short : length before < cells_of_task * in_all tab → after ≡ before → FillsFrom tab budget before after (said.refused NoRoom 0)
+  done : Written tab budget before after → FillsFrom tab budget before after (filled (in_all tab))
 
 -- Fills image budget before after r: the same of an image. A refusal of the image comes first, and every cell stays as it
 -- was
-pub data Fills (image : List ℕ) (budget : ℕ) (before after : List ℕ) : Filled → Type 0 where
-  refused : {refusal : Refusal} {at : ℕ} → image_fault image ≡ Refused refusal at → after ≡ before → Fills image budget before after (filled.Refused refusal at)
-  accepted : {r : Filled} → IsAccepted image → FillsFrom (table_in image) budget before after r → Fills image budget before after r
+pub data Fills (image : List ℕ) (budget : ℕ) (before after : List ℕ) : Filling → Type 0 where
+  refused : {refusal : Refusal} {at : ℕ} → image_fault image ≡ said.refused refusal at → after ≡ before → Fills image budget before after (said.refused refusal at)
+  accepted : {r : Filling} → IsAccepted image → FillsFrom (table_in image) budget before after r → Fills image budget before after r
 
 -- every task keeps its deadline: in every legal run each job of it has finished when its deadline has passed since its event
 abbrev pub InTime : Table → Type 0
@@ -75,5 +83,5 @@ pub data RespondsFrom (tab : Table) (task budget : ℕ) : ℕ → Type 0 where
 
 -- Responds image task budget r: r is what the C host gets
 pub data Responds (image : List ℕ) (task budget : ℕ) : ℕ → Type 0 where
-  refused : {refusal : Refusal} {at : ℕ} → image_fault image ≡ Refused refusal at → Responds image task budget (paired (refusal_number refusal) at)
+  refused : {refusal : Refusal} {at : ℕ} → image_fault image ≡ said.refused refusal at → Responds image task budget (paired (refusal_number refusal) at)
   accepted : {r : ℕ} → IsAccepted image → RespondsFrom (table_in image) task budget r → Responds image task budget r

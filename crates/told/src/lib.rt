@@ -2,41 +2,26 @@
 // is named here, and the cells of a task are counted here; how an answer is found is not known here.
 #![tactic(auto)]
 
-ghost use Rattle.std.specs.Prelude.{◌≡◌, length};
+ghost use Rattle.std.specs.Prelude.{◌≡◌, ◌^◌, ◌<◌};
 ghost use Rattle.analysis.specs.Answer.{cells, unbounded};
 ghost use Rattle.told.specs.Cells.{has_room, listed, stored, are_kept};
 ghost use Rattle.told.specs.Code.{code_number, CodeOf};
 ghost use Rattle.told.specs.Answered.{meant, cells_meant};
-ghost use Rattle.told.specs.Told.{filled_number, filled_place, paired};
+ghost use Rattle.told.specs.Told.{filled_case, paired};
 
-use refusals::Refusal;
+use refusals::{Case, Numbered};
 
-// What became of the cells that a caller lent.
-#[derive(Clone, Copy)]
-pub enum Filled {
-    // That many tasks have their cells.
-    Done(usize),
-    // Refused, by document 01's number and place; every cell stays as it was.
-    Refused(Refusal, usize),
+// What became of the cells that a caller lent: so many tasks have theirs. Where that is refused, every cell stays as it was.
+#[derive(Clone, Copy, PartialEq, Eq)]
+pub struct Filled {
+    pub tasks: usize,
 }
 
-impl Filled {
-    pub fn number(self) -> u32
-        ensures { result ≡ filled_number self }
-    {
-        match self {
-            Filled::Done(_) => 0,
-            Filled::Refused(refusal, _) => refusal.number(),
-        }
-    }
+impl Case for Filled {
+    ghost case_of = { filled_case };
 
-    pub fn place(self) -> usize
-        ensures { result ≡ filled_place self }
-    {
-        match self {
-            Filled::Done(_) => 0,
-            Filled::Refused(_, at) => at,
-        }
+    fn case(&self) -> usize {
+        0
     }
 }
 
@@ -93,7 +78,7 @@ pub struct Named {
     pub job: u32,
 }
 
-// What is found of one task.
+// What is found of one task: document 01's four answers, none of which is an error, so an enum of its own and no `Result`.
 #[derive(Clone, Copy)]
 pub enum TaskAnswer {
     // The bound, the evaluations, and who gave it.
@@ -241,4 +226,12 @@ pub fn pair(upper: u32, lower: u32) -> u64
     ensures { result ≡ paired upper lower }
 {
     u64::from(upper) * 4_294_967_296 + u64::from(lower)
+}
+
+// Whatever may be refused, in one number: its number and its place, or the case of what is not refused.
+pub fn tell<A: Numbered>(answer: &A) -> u64
+    requires { A.placed answer.now < 2 ^ 32 }
+    ensures { result ≡ paired (A.numbered answer.now) (A.placed answer.now) }
+{
+    pair(answer.number(), answer.place() as u32)
 }
