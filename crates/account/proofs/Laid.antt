@@ -46,7 +46,6 @@ sets-in (v ∷ vs) l i (suc k) h room =
 
 -- any case of a transaction's answer but the last charges nothing
 pub no-charge : (x : Part) → ((c : Charge) → x ≡ part.Charged c → ⊥) → charge_cells x ≡ []
-no-charge (part.Refused refusal at) k = refl
 no-charge part.NoBound k = refl
 no-charge part.Own k = refl
 no-charge part.NoTransaction k = refl
@@ -54,7 +53,6 @@ no-charge part.NoRivals k = refl
 no-charge (part.Charged c) k = absurd (k c refl)
 
 pub charge-short : (x : Part) → length (charge_cells x) ≤ group_cells
-charge-short (part.Refused refusal at) = omega arith
 charge-short part.NoBound = omega arith
 charge-short part.Own = omega arith
 charge-short part.NoTransaction = omega arith

@@ -13,12 +13,12 @@ use Rattle.told.specs.Answered.{cells_meant}
 use Rattle.told.specs.Told.{Owed, OwedAt}
 use Rattle.told.proofs.Told.{owed-one}
 use Rattle.parts.specs.declared.Parts.{Parts}
-use Rattle.parts.specs.declared.Made.TheVariants as made
+use Rattle.std.specs.Prelude.{Some, None, Result, Ok, Err, OnErr}
+use Rattle.refusals.specs.declared.Fault.{Fault}
 use Rattle.parts.specs.Parts.{MadeFor}
 use Rattle.parts.proofs.Unique.{of_image, of-task, made-for}
 use Rattle.account.specs.declared.Account.{Account}
-use Rattle.account.specs.declared.Account.TheVariants as account
-use Rattle.account.specs.Account.{laid_for, AccountFor, refused_with, Accounts}
+use Rattle.account.specs.Account.{laid_for, AccountFor, with_cells, Accounts}
 use Rattle.account.proofs.Lays.{lays-is}
 
 abbrev told : Account → List ℕ → Account × List ℕ
@@ -42,24 +42,31 @@ module _ {tab : Table} (keeps : Kept tab) {u a : ℕ} (is_task : IsTask tab u a)
 
   account-for : {before : List ℕ} {x y : Account × List ℕ} → AccountFor budget before tab u a x → AccountFor budget before tab u a y → x ≡ y
   account-for {before} (AccountFor.unbounded o h n) (AccountFor.unbounded q k m) =
-      ap (λ (c : TaskCells). told (account.Unbounded c) before) (one-cells o q)
+      ap (λ (c : TaskCells). told (record { cells = c; parts = None }) before) (one-cells o q)
   account-for (AccountFor.unbounded o h n) (AccountFor.bounded q k w m) = absurd (n _ _ _ (answers-unique keeps is_task h k))
   account-for (AccountFor.bounded o h v l) (AccountFor.unbounded q k m) = absurd (m _ _ _ (answers-unique keeps is_task k h))
   account-for {before} (AccountFor.bounded {x = x} {p = p} o h v l) (AccountFor.bounded {x = y} {p = q} s k w m) =
-      let e : made.Of p ≡ made.Of q = made-for keeps is_task (MadeFor.bounded h v) (MadeFor.bounded k w) in
+      let e : Some p ≡ Some q = made-for keeps is_task (MadeFor.bounded h v) (MadeFor.bounded k w) in
       let parts : p ≡ q = cc in
       let by : x ≡ y = (bound-by-unique v.by w.by).0 in
-      ap₂ told (ap₂ account.Bounded (one-cells o s) parts)
+      ap₂ told (ap₂ (λ (c : TaskCells) (r : Parts). record { cells = c; parts = Some r }) (one-cells o s) parts)
       (lays-is is_task l
       ∙ ap₂ (λ (z : Source) (r : Parts). laid_for tab u a z.turn r.completion before) by parts
       ∙ sym (lays-is is_task m))
 
 -- one answer, and one content of the cells after it
 pub accounts-unique :
-    {image : List ℕ} {task budget : ℕ} {before after other : List ℕ} {r q : Account}
+    {image : List ℕ} {task budget : ℕ} {before after other : List ℕ} {r q : Result Account Fault}
     → Accounts image task budget before after r
     → Accounts image task budget before other q
     → (r ≡ q) × (after ≡ other)
-accounts-unique {image} {task} {before = before} x y =
-    let e = of_image (refused_with before) image (λ tab keeps x y. of-task (refused_with before) task tab (λ u a is_task x y. account-for keeps is_task)) x y in
-    (ap (λ (z : Account × List ℕ). z.0) e, ap (λ (z : Account × List ℕ). z.1) e)
+accounts-unique {image} {task} {before = before} {after = after} {other = other} {r = r} {q = q} x y =
+    go r q x.stays y.stays (of_image image (λ tab keeps x y. of-task task tab (λ u a is_task x y. account-for keeps is_task)) x.told y.told)
+  where
+    go : (r q : Result Account Fault) → OnErr r (after ≡ before) → OnErr q (other ≡ before) → with_cells after r ≡ with_cells other q → (r ≡ q) × (after ≡ other)
+    go (Ok a) (Ok b) s t e =
+        let same : told a after ≡ told b other = cc in
+        (ap (λ (z : Account × List ℕ). Ok z.0) same, ap (λ (z : Account × List ℕ). z.1) same)
+    go (Ok a) (Err g) s t e = cc
+    go (Err f) (Ok b) s t e = cc
+    go (Err f) (Err g) s t e = (cc, s ∙ sym t)

@@ -1,9 +1,9 @@
 -- What a caller is told of one task by one walk: its cells, what its bound is made of, and in lent cells what each other transaction
 -- charges until the completion and how each task of its own transaction stands from the critical instant on.
-use Rattle.std.specs.Prelude.{◌≡◌, refl, cond, List, [], ◌∷◌, ◌++◌, map, ltb, take, drop, replicate, ℕ, zero, suc, ◌+◌, ◌*◌, ◌<◌}
+use Rattle.std.specs.Prelude.{◌≡◌, refl, cond, List, [], ◌∷◌, ◌++◌, map, ltb, take, drop, replicate, Some, None, Result, Ok, Err, OnErr, ℕ, zero, suc, ◌+◌, ◌*◌, ◌<◌}
 use Rattle.std.proofs.lemmas.List.Edits.{sets}
 use Rattle.std.proofs.Math.Decide.{ℕ_discrete}
-use Rattle.refusals.specs.declared.Refusal.{Refusal}
+use Rattle.refusals.specs.declared.Fault.{Fault}
 use Rattle.table.specs.Limits.{transactions_most, tasks_most}
 use Rattle.table.specs.Table.{Table, transactions, tasks}
 use Rattle.table.specs.Sample.{S, plain, task, transaction, table}
@@ -21,14 +21,11 @@ use Rattle.told.specs.declared.TaskCells.{TaskCells}
 use Rattle.told.specs.Answered.{cells_meant}
 use Rattle.told.specs.Told.{Owed}
 use Rattle.parts.specs.declared.Parts.{Parts}
-use Rattle.parts.specs.declared.Made.{Made}
-use Rattle.parts.specs.declared.Made.TheVariants as made
 use Rattle.parts.specs.declared.Part.{Part}
 use Rattle.parts.specs.declared.Part.TheVariants as part
-use Rattle.parts.specs.Parts.{OfImage, OfTask, NoBound, parts_meant, ChargedBy, part_said, charge_listed}
+use Rattle.parts.specs.Parts.{Made, OfImage, OfTask, NoBound, parts_meant, ChargedBy, part_said, charge_listed}
 use Rattle.account.specs.declared.Share.{Share}
 use Rattle.account.specs.declared.Account.{Account}
-use Rattle.account.specs.declared.Account.TheVariants as account
 
 -- ---- the lent cells
 
@@ -56,7 +53,6 @@ laid at (suc n) group before = sets (laid at n group before) (at + group_cells *
 
 -- what a transaction charges, with who gives it, where it charges
 abbrev pub charge_cells : Part → List ℕ
-charge_cells (part.Refused refusal at) = []
 charge_cells part.NoBound = []
 charge_cells part.Own = []
 charge_cells part.NoTransaction = []
@@ -128,34 +124,34 @@ pub data AccountFor (budget : ℕ) (before : List ℕ) (tab : Table) (u a : ℕ)
       → Owed tab u a budget (cells_meant c)
       → Answers tab u a budget x
       → NoBound x
-      → AccountFor budget before tab u a (account.Unbounded c, before)
+      → AccountFor budget before tab u a (record { cells = c; parts = None }, before)
   bounded :
       {R n : ℕ} {x : Source} {c : TaskCells} {p : Parts} {after : List ℕ}
       → Owed tab u a budget (cells_meant c)
       → Answers tab u a budget (bound R n (named tab u x))
       → MadeOf tab u a R x (parts_meant p)
       → Lays tab u a x.turn p.completion before after
-      → AccountFor budget before tab u a (account.Bounded c p, after)
+      → AccountFor budget before tab u a (record { cells = c; parts = Some p }, after)
 
--- a refusal leaves every cell
-abbrev pub refused_with : List ℕ → Refusal → ℕ → Account × List ℕ
-refused_with before refusal at = (account.Refused refusal at, before)
+-- the answer, with the cells after it where there are any
+abbrev pub with_cells : List ℕ → Result Account Fault → Result (Account × List ℕ) Fault
+with_cells after (Ok x) = Ok (x, after)
+with_cells after (Err f) = Err f
 
--- Accounts image task budget before after r: of that task r is told, and the lent cells were `before` and are `after`
-abbrev pub Accounts : (image : List ℕ) (task budget : ℕ) (before after : List ℕ) → Account → Type 0
-Accounts image task budget before after r =
-    OfImage (refused_with before) (OfTask (refused_with before) (AccountFor budget before) task) image (r, after)
+-- Accounts image task budget before after r: of that task r is told, and the lent cells were `before` and are `after`. A refusal leaves
+-- every cell
+pub record Accounts (image : List ℕ) (task budget : ℕ) (before after : List ℕ) (r : Result Account Fault) : Type 0 where
+  pub told : OfImage (OfTask (AccountFor budget before) task) image (with_cells after r)
+  pub stays : OnErr r (after ≡ before)
 
 -- ---- as the other calls tell it
 
 -- what is told of its bound
-unfoldable pub made_in : Account → Made
-made_in (account.Refused refusal at) = made.Refused refusal at
-made_in (account.Unbounded c) = made.NoBound
-made_in (account.Bounded c p) = made.Of p
+unfoldable pub made_in : Result Account Fault → Made
+made_in (Ok x) = Ok x.parts
+made_in (Err f) = Err f
 
 -- of the task's cells, if they are told
-unfoldable pub OfCells : Account → (TaskCells → Type 0) → Type 0
-OfCells (account.Refused refusal at) P = Unit {0}
-OfCells (account.Unbounded c) P = P c
-OfCells (account.Bounded c p) P = P c
+unfoldable pub OfCells : Result Account Fault → (TaskCells → Type 0) → Type 0
+OfCells (Ok x) P = P x.cells
+OfCells (Err f) P = Unit {0}

@@ -7,7 +7,6 @@ ghost use Rattle.table.specs.Limits.{transactions_most, tasks_most};
 ghost use Rattle.account.specs.Account.{charges_cell, shares_cell, charge_cells, share_cells, stored};
 
 use parts::{Charge, Part, Parts};
-use refusals::Refusal;
 use row::{Table, Transaction};
 use told::TaskCells;
 
@@ -23,15 +22,12 @@ pub struct Share {
     pub ticks: u64,
 }
 
-// What is told of one task.
+// What is told of one task: its cells, and what its bound is made of, where it has one; where it has none, and where it is refused, every
+// lent cell stays as it was.
 #[derive(Clone, Copy)]
-pub enum Account {
-    // Refused, by document 01's number and place; every cell stays as it was.
-    Refused(Refusal, usize),
-    // Its cells: it has no bound. Every lent cell stays as it was.
-    Unbounded(TaskCells),
-    // Its cells, and what its bound is made of.
-    Bounded(TaskCells, Parts),
+pub struct Account {
+    pub cells: TaskCells,
+    pub parts: Option<Parts>,
 }
 
 impl Account {

@@ -21,10 +21,11 @@ use Rattle.analysis.specs.Parts as analysis
 use Rattle.analysis.specs.Parts.{MadeOf}
 use Rattle.analysis.proofs.Answer.{answers-unique}
 use Rattle.analysis.proofs.Who.{amount-greatest}
+use Rattle.std.specs.Prelude.{Result, Ok, Some}
+use Rattle.refusals.specs.declared.Fault.{Fault}
 use Rattle.parts.specs.declared.Parts.{Parts}
-use Rattle.parts.specs.declared.Made.TheVariants as made
 use Rattle.parts.specs.declared.Part.{Part}
-use Rattle.parts.specs.Parts.{OfImage, OfTask, MadeFor, Makes, ChargedBy, part_said, ticks_of, PartFor, HasPart}
+use Rattle.parts.specs.Parts.{OfImage, OfTask, MadeFor, Makes, ChargedBy, part_said, ticks_of, ticks_told, PartFor, HasPart}
 use Rattle.parts.proofs.Unique.{clash, one-made}
 
 -- what is told of the greatest charge has its ticks
@@ -61,21 +62,21 @@ part-ticks {i} {tab} keeps {u} {a} is_task l h m (PartFor.bounded k w c) =
 -- Blocking, own jobs, own rivals and the parts of all transactions make up the completion
 pub parts_add :
     {image : List ℕ} {task budget : ℕ} {p : Parts}
-    → Makes image task budget (made.Of p)
-    → (told : ℕ → Part)
+    → Makes image task budget (Ok (Some p))
+    → (told : ℕ → Result Part Fault)
     → ((i : ℕ) → i < transactions (table_in image) → HasPart image task budget i (told i))
-    → p.blocking + p.jobs + p.rivals + sum (transactions (table_in image)) (λ i. ticks_of (told i)) ≡ p.completion
-unfolding others
+    → p.blocking + p.jobs + p.rivals + sum (transactions (table_in image)) (λ i. ticks_told (told i)) ≡ p.completion
+unfolding others ticks_told
 parts_add {image} {task} {budget} {p} (OfImage.accepted ok (OfTask.known {u = u} {a = a} is_task numbered (MadeFor.bounded h m))) told each =
-    let same : sum (transactions tab) (λ i. ticks_of (told i)) ≡ others imposed tab u a p.completion = sum-ext (transactions tab) (λ i l. ticks i l (each i l)) in
+    let same : sum (transactions tab) (λ i. ticks_told (told i)) ≡ others imposed tab u a p.completion = sum-ext (transactions tab) (λ i l. ticks i l (each i l)) in
     omega (arith, same, m.adds)
   where
     tab : Table
     tab = table_in image
 
-    ticks : (i : ℕ) {r : Part} → i < transactions (table_in image) → HasPart image task budget i r → ticks_of r ≡ unless (ℕ_discrete i u) (greatest imposed (table_in image) u a i p.completion)
+    ticks : (i : ℕ) {r : Result Part Fault} → i < transactions (table_in image) → HasPart image task budget i r → ticks_told r ≡ unless (ℕ_discrete i u) (greatest imposed (table_in image) u a i p.completion)
     ticks i l (OfImage.refused e) = absurd (clash image e ok)
     ticks i l (OfImage.accepted yet (OfTask.unknown k)) = absurd (omega (arith, number_lt (table_in image) is_task, numbered))
-    ticks i {r} l (OfImage.accepted yet (OfTask.known other alike c)) =
+    ticks i l (OfImage.accepted yet (OfTask.known {r = r} other alike c)) =
         let (e, f) = number-unique (table_in image) other is_task (alike ∙ sym numbered) in
         part-ticks (kept image ok) is_task l h m (subst₂ (λ (v b : ℕ). PartFor budget i (table_in image) v b r) e f c)

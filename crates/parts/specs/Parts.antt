@@ -1,11 +1,12 @@
 -- What a caller is told of who pushed a task: what its bound is made of, and the greatest charge of one transaction; of an image, of a
 -- task of its table, or why there is none.
-use Rattle.std.specs.Prelude.{◌≡◌, refl, Bool, List, [], ◌∷◌, map, ℤ, pos, ℕ, ◌≤◌, ◌<◌}
+use Rattle.std.specs.Prelude.{◌≡◌, refl, Bool, List, [], ◌∷◌, map, ℤ, pos, ℕ, ◌≤◌, ◌<◌, Option, Some, None, Result, Ok, Err}
 use Rattle.std.proofs.lemmas.List.Edits.{sets}
 use Rattle.refusals.specs.declared.Refusal.{Refusal}
 use Rattle.refusals.specs.declared.Refusal.TheVariants.{NoTask}
-use Rattle.refusals.specs.declared.Answer.TheVariants as answer
-use Rattle.refusals.specs.Answer.{refusal_number}
+use Rattle.refusals.specs.declared.Fault.{Fault}
+use Rattle.refusals.specs.Answer as answer
+use Rattle.refusals.specs.Answer.{number_of, place_of, option_case}
 use Rattle.table.specs.Table.{Table, IsTask, transactions}
 use Rattle.table.specs.Number.{in_all, number}
 use Rattle.table.specs.Sample.{S}
@@ -22,22 +23,20 @@ use Rattle.analysis.specs.Computing.{computing}
 use Rattle.charge.specs.Later.{later_of}
 use Rattle.parts.specs.declared.Parts.{Parts}
 use Rattle.parts.specs.declared.Charge.{Charge}
-use Rattle.parts.specs.declared.Made.{Made}
-use Rattle.parts.specs.declared.Made.TheVariants as made
 use Rattle.parts.specs.declared.Part.{Part}
 use Rattle.parts.specs.declared.Part.TheVariants as part
 
 -- ---- what is told of an image, and of a task of its table
 
--- OfImage refused Told image r: r is the image's refusal, or what is told of its table
-pub data OfImage {R : Type 0} (refused_as : Refusal → ℕ → R) (Told : Table → R → Type 0) (image : List ℕ) : R → Type 0 where
-  refused : {refusal : Refusal} {at : ℕ} → image_fault image ≡ answer.Refused refusal at → OfImage refused_as Told image (refused_as refusal at)
-  accepted : {r : R} → IsAccepted image → Told (table_in image) r → OfImage refused_as Told image r
+-- OfImage Told image r: r is the image's refusal, or what is told of its table
+pub data OfImage {R : Type 0} (Told : Table → Result R Fault → Type 0) (image : List ℕ) : Result R Fault → Type 0 where
+  refused : {refusal : Refusal} {at : ℕ} → image_fault image ≡ answer.refused refusal at → OfImage Told image (answer.refused refusal at)
+  accepted : {r : Result R Fault} → IsAccepted image → Told (table_in image) r → OfImage Told image r
 
--- OfTask refused Told k tab r: r is 13 at 0 where there is no task number k, or what is told of task a of u, which it is
-pub data OfTask {R : Type 0} (refused_as : Refusal → ℕ → R) (Told : Table → (u a : ℕ) → R → Type 0) (k : ℕ) (tab : Table) : R → Type 0 where
-  unknown : in_all tab ≤ k → OfTask refused_as Told k tab (refused_as NoTask 0)
-  known : {u a : ℕ} {r : R} → IsTask tab u a → number tab u a ≡ k → Told tab u a r → OfTask refused_as Told k tab r
+-- OfTask Told k tab r: r is 13 at 0 where there is no task number k, or what is told of task a of u, which it is
+pub data OfTask {R : Type 0} (Told : Table → (u a : ℕ) → R → Type 0) (k : ℕ) (tab : Table) : Result R Fault → Type 0 where
+  unknown : in_all tab ≤ k → OfTask Told k tab (answer.refused NoTask 0)
+  known : {u a : ℕ} {r : R} → IsTask tab u a → number tab u a ≡ k → Told tab u a r → OfTask Told k tab (Ok r)
 
 -- ---- what its bound is made of
 
@@ -57,13 +56,17 @@ abbrev pub NoBound : Answer → Type 0
 NoBound x = (R n : ℕ) (by : Named) → ¬ (x ≡ bound R n by)
 
 -- task a of u has no bound under the budget; or it has one, of these parts
-pub data MadeFor (budget : ℕ) (tab : Table) (u a : ℕ) : Made → Type 0 where
-  unbounded : {x : Answer} → Answers tab u a budget x → NoBound x → MadeFor budget tab u a made.NoBound
-  bounded : {R n : ℕ} {x : Source} {p : Parts} → Answers tab u a budget (bound R n (named tab u x)) → MadeOf tab u a R x (parts_meant p) → MadeFor budget tab u a (made.Of p)
+pub data MadeFor (budget : ℕ) (tab : Table) (u a : ℕ) : Option Parts → Type 0 where
+  unbounded : {x : Answer} → Answers tab u a budget x → NoBound x → MadeFor budget tab u a None
+  bounded : {R n : ℕ} {x : Source} {p : Parts} → Answers tab u a budget (bound R n (named tab u x)) → MadeOf tab u a R x (parts_meant p) → MadeFor budget tab u a (Some p)
+
+-- what is told of a task's bound: its parts, or that it has none, or a refusal
+abbrev pub Made : Type 0
+Made = Result (Option Parts) Fault
 
 -- Makes image task budget r: r is what the bound of that task is made of
 abbrev pub Makes : (image : List ℕ) (task budget : ℕ) → Made → Type 0
-Makes image task budget = OfImage made.Refused (OfTask made.Refused (MadeFor budget) task) image
+Makes image task budget = OfImage (OfTask (MadeFor budget) task) image
 
 -- ---- what one transaction charges
 
@@ -90,8 +93,8 @@ pub data ChargedBy (later : Later) (i t : ℕ) (tab : Table) (u a : ℕ) : Part 
   other : {x : Most} {r : Part} → Other tab u i → MostCharged later tab u a i t x → part_said tab i x ≡ r → ChargedBy later i t tab u a r
 
 -- ChargesOne image task i whole t r: r is what transaction i charges that task by t, whole jobs at their release or what they impose
-abbrev pub ChargesOne : (image : List ℕ) (task i : ℕ) (whole : Bool) (t : ℕ) → Part → Type 0
-ChargesOne image task i whole t = OfImage part.Refused (OfTask part.Refused (ChargedBy (later_of whole) i t) task) image
+abbrev pub ChargesOne : (image : List ℕ) (task i : ℕ) (whole : Bool) (t : ℕ) → Result Part Fault → Type 0
+ChargesOne image task i whole t = OfImage (OfTask (ChargedBy (later_of whole) i t) task) image
 
 -- the part of transaction i in the bound of task a of u: what it imposes until the completion
 pub data PartFor (budget i : ℕ) (tab : Table) (u a : ℕ) : Part → Type 0 where
@@ -99,31 +102,30 @@ pub data PartFor (budget i : ℕ) (tab : Table) (u a : ℕ) : Part → Type 0 wh
   bounded : {R n : ℕ} {x : Source} {p : analysis.Parts} {r : Part} → Answers tab u a budget (bound R n (named tab u x)) → MadeOf tab u a R x p → ChargedBy imposed i p.completion tab u a r → PartFor budget i tab u a r
 
 -- HasPart image task budget i r: r is the part of transaction i in that task's bound
-abbrev pub HasPart : (image : List ℕ) (task budget i : ℕ) → Part → Type 0
-HasPart image task budget i = OfImage part.Refused (OfTask part.Refused (PartFor budget i) task) image
+abbrev pub HasPart : (image : List ℕ) (task budget i : ℕ) → Result Part Fault → Type 0
+HasPart image task budget i = OfImage (OfTask (PartFor budget i) task) image
 
 -- the ticks of a part: 0 where it has none
 unfoldable pub ticks_of : Part → ℕ
-ticks_of (part.Refused refusal at) = 0
 ticks_of part.NoBound = 0
 ticks_of part.Own = 0
 ticks_of part.NoTransaction = 0
 ticks_of part.NoRivals = 0
 ticks_of (part.Charged c) = c.ticks
 
+unfoldable pub ticks_told : Result Part Fault → ℕ
+ticks_told (Ok x) = ticks_of x
+ticks_told (Err f) = 0
+
 -- ---- as numbers and cells
 
 -- the refusal's number, or 0
 abbrev pub made_number : Made → ℕ
-made_number (made.Refused refusal at) = refusal_number refusal
-made_number made.NoBound = 0
-made_number (made.Of p) = 0
+made_number r = number_of r
 
 -- the refusal's place, or which case it is
 abbrev pub made_place : Made → ℕ
-made_place (made.Refused refusal at) = at
-made_place made.NoBound = 1
-made_place (made.Of p) = 0
+made_place r = place_of option_case r
 
 abbrev pub parts_listed : Parts → List ℤ
 parts_listed p =
@@ -131,33 +133,30 @@ parts_listed p =
 
 -- the cells with the parts, where they are given
 abbrev pub made_cells : List ℤ → Made → List ℤ
-made_cells before (made.Refused refusal at) = before
-made_cells before made.NoBound = before
-made_cells before (made.Of p) = sets before 0 (parts_listed p)
+made_cells before (Ok (Some p)) = sets before 0 (parts_listed p)
+made_cells before (Ok None) = before
+made_cells before (Err f) = before
 
-abbrev pub part_number : Part → ℕ
-part_number (part.Refused refusal at) = refusal_number refusal
-part_number part.NoBound = 0
-part_number part.Own = 0
-part_number part.NoTransaction = 0
-part_number part.NoRivals = 0
-part_number (part.Charged c) = 0
+abbrev pub part_case : Part → ℕ
+part_case part.NoBound = 1
+part_case part.Own = 2
+part_case part.NoTransaction = 3
+part_case part.NoRivals = 4
+part_case (part.Charged c) = 0
 
-abbrev pub part_place : Part → ℕ
-part_place (part.Refused refusal at) = at
-part_place part.NoBound = 1
-part_place part.Own = 2
-part_place part.NoTransaction = 3
-part_place part.NoRivals = 4
-part_place (part.Charged c) = 0
+abbrev pub part_number : Result Part Fault → ℕ
+part_number r = number_of r
+
+abbrev pub part_place : Result Part Fault → ℕ
+part_place r = place_of part_case r
 
 abbrev pub charge_listed : Charge → List ℕ
 charge_listed c = c.ticks ∷ c.mode ∷ c.candidate ∷ []
 
-abbrev pub part_cells : List ℕ → Part → List ℕ
-part_cells before (part.Refused refusal at) = before
-part_cells before part.NoBound = before
-part_cells before part.Own = before
-part_cells before part.NoTransaction = before
-part_cells before part.NoRivals = before
-part_cells before (part.Charged c) = sets before 0 (charge_listed c)
+abbrev pub part_cells : List ℕ → Result Part Fault → List ℕ
+part_cells before (Ok part.NoBound) = before
+part_cells before (Ok part.Own) = before
+part_cells before (Ok part.NoTransaction) = before
+part_cells before (Ok part.NoRivals) = before
+part_cells before (Ok (part.Charged c)) = sets before 0 (charge_listed c)
+part_cells before (Err f) = before

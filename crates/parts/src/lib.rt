@@ -1,11 +1,11 @@
-// What a caller is told of who pushed a task: what its bound is made of, and what one transaction charges it. Every answer is an enum
-// with a case for each thing that can be so; how an answer is found is not known here.
+// What a caller is told of who pushed a task: what its bound is made of, and what one transaction charges it. Every answer is a Result
+// over the fault that refuses it; how an answer is found is not known here.
 #![tactic(auto)]
 
 ghost use Rattle.std.specs.Prelude.{◌≡◌};
-ghost use Rattle.parts.specs.Parts.{parts_listed, made_number, made_place, made_cells, charge_listed, part_number, part_place, part_cells};
+ghost use Rattle.parts.specs.Parts.{parts_listed, made_cells, charge_listed, part_case, part_cells};
 
-use refusals::Refusal;
+use refusals::{Case, Fault};
 
 // In ticks from the critical instant on: when the job that gives the bound completes, and when it arrived, before the instant
 // where it was held back; and what is charged until it completes, beside what the other transactions charge.
@@ -25,6 +25,11 @@ impl Parts {
     // How many cells they take, in the order of the fields.
     pub const COUNT: usize = 6;
 
+    // Where they are given, and where the task has no bound: what the place says of an answer that is no refusal.
+    pub const GIVEN: usize = 0;
+
+    pub const NO_BOUND: usize = 1;
+
     // Each in its place.
     fn listed(self) -> [i64; Parts::COUNT]
         ensures { result ≡ parts_listed self }
@@ -38,16 +43,15 @@ impl Parts {
             i64::from(self.rivals),
         ]
     }
-}
 
-// What the bound of one task is made of.
-#[derive(Clone, Copy)]
-pub enum Made {
-    // Refused, by document 01's number and place.
-    Refused(Refusal, usize),
-    // The task has no bound.
-    NoBound,
-    Of(Parts),
+    // Stores the parts of a bound, where there are any; else leaves every cell.
+    pub fn put(made: Result<Option<Parts>, Fault>, cells: &mut [i64; Parts::COUNT])
+        ensures { cells.new ≡ made_cells cells.old made }
+    {
+        if let Ok(Some(parts)) = made {
+            *cells = parts.listed();
+        }
+    }
 }
 
 // The greatest charge of a transaction, with the mode and the number of the candidate that give it.
@@ -73,8 +77,6 @@ impl Charge {
 // What one transaction charges one task.
 #[derive(Clone, Copy)]
 pub enum Part {
-    // Refused, by document 01's number and place.
-    Refused(Refusal, usize),
     // The task has no bound.
     NoBound,
     // It is the task's own transaction.
@@ -86,40 +88,16 @@ pub enum Part {
     Charged(Charge),
 }
 
-impl Made {
-    // Where the parts are given, and where the task has no bound: what the place says of an answer that is no refusal.
-    pub const GIVEN: usize = 0;
+impl Case for Part {
+    ghost case_of = { part_case };
 
-    pub const NO_BOUND: usize = 1;
-
-    pub fn number(self) -> u32
-        ensures { result ≡ made_number self }
-    {
+    fn case(&self) -> usize {
         match self {
-            Made::Refused(refusal, _) => refusal.number(),
-            Made::NoBound => 0,
-            Made::Of(_) => 0,
-        }
-    }
-
-    pub fn place(self) -> usize
-        ensures { result ≡ made_place self }
-    {
-        match self {
-            Made::Refused(_, at) => at,
-            Made::NoBound => Made::NO_BOUND,
-            Made::Of(_) => Made::GIVEN,
-        }
-    }
-
-    // Stores the parts, where there are any; else leaves every cell.
-    pub fn put(self, cells: &mut [i64; Parts::COUNT])
-        ensures { cells.new ≡ made_cells cells.old self }
-    {
-        match self {
-            Made::Refused(_, _) => {}
-            Made::NoBound => {}
-            Made::Of(parts) => *cells = parts.listed(),
+            Part::NoBound => Part::NO_BOUND,
+            Part::Own => Part::OWN,
+            Part::NoTransaction => Part::NO_TRANSACTION,
+            Part::NoRivals => Part::NO_RIVALS,
+            Part::Charged(_) => Part::GIVEN,
         }
     }
 }
@@ -135,43 +113,12 @@ impl Part {
 
     pub const NO_RIVALS: usize = 4;
 
-    pub fn number(self) -> u32
-        ensures { result ≡ part_number self }
-    {
-        match self {
-            Part::Refused(refusal, _) => refusal.number(),
-            Part::NoBound => 0,
-            Part::Own => 0,
-            Part::NoTransaction => 0,
-            Part::NoRivals => 0,
-            Part::Charged(_) => 0,
-        }
-    }
-
-    pub fn place(self) -> usize
-        ensures { result ≡ part_place self }
-    {
-        match self {
-            Part::Refused(_, at) => at,
-            Part::NoBound => Part::NO_BOUND,
-            Part::Own => Part::OWN,
-            Part::NoTransaction => Part::NO_TRANSACTION,
-            Part::NoRivals => Part::NO_RIVALS,
-            Part::Charged(_) => Part::GIVEN,
-        }
-    }
-
     // Stores the charge, its mode and its candidate, where there is one; else leaves every cell.
-    pub fn put(self, cells: &mut [u64; Charge::COUNT])
-        ensures { cells.new ≡ part_cells cells.old self }
+    pub fn put(part: Result<Part, Fault>, cells: &mut [u64; Charge::COUNT])
+        ensures { cells.new ≡ part_cells cells.old part }
     {
-        match self {
-            Part::Refused(_, _) => {}
-            Part::NoBound => {}
-            Part::Own => {}
-            Part::NoTransaction => {}
-            Part::NoRivals => {}
-            Part::Charged(charge) => *cells = charge.listed(),
+        if let Ok(Part::Charged(charge)) = part {
+            *cells = charge.listed();
         }
     }
 }
