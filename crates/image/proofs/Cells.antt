@@ -1,19 +1,19 @@
 -- The cells of a transaction and of a task that an image says.
-use mathlib.Core.Path.{◌≡◌, refl, sym, ap, ◌∙◌}
+use mathlib.Core.Path.{◌≡◌, refl, ◌∙◌}
 use mathlib.Core.List.{List, [], ◌∷◌}
-use Prim.Native.Nat.{ℕ, zero, suc, ◌+◌, ◌*◌, ◌≤◌, ◌<◌}
-use native.Mathlib.Nat.{add-mul, add-zero}
+use Prim.Native.Nat.{ℕ, zero, suc, ◌+◌, ◌*◌, ◌<◌}
+use native.Mathlib.Nat.{add-mul}
 use native.Mathlib.Omega.{arith}
-use lib.ListN.{length, get_or, length-append}
-use lib.Seq.{sets, length-sets, ext_get_or}
+use lib.ListN.{length, length-append}
+use lib.Seq.{sets, length-sets}
 use Rattle.table.specs.Sum.{sum}
 use Rattle.format.specs.Said.{edition_in, frame_in, count_in, period_in, modes_in, tasks_in, task_in, transaction_in, tasks_before}
 use Rattle.format.specs.Places.{task_width, start}
 use Rattle.row.specs.Row.{header_cells, transaction_cells, task_cells, tasks_cell, of_transaction, of_task}
 use Rattle.image.specs.Fill.{tasks_cells, heads_in, of_tasks_in, every_task_in, transactions_over, filled_over}
 use Rattle.table.specs.Limits.{transactions_most}
-use Rattle.table.specs.Lists.{list_of, joined, padded}
-use Rattle.table.proofs.Lists.{length-list_of, get_or-list_of, length-joined, join-next, length-padded, get_or-padded, sets-padded, sets-within, sets-before}
+use Rattle.table.specs.Lists.{joined}
+use Rattle.table.proofs.Lists.{length-list_of, length-joined, join-next, sets-before}
 use Rattle.row.proofs.Rows.{length-head, length-task}
 
 pub head-cells :
@@ -21,20 +21,6 @@ pub head-cells :
     → of_transaction first (transaction_in image p) ≡ period_in image p ∷ modes_in image p ∷ first ∷ tasks_in image p ∷ 0 ∷ []
 unfolding of_transaction transaction_in
 head-cells first image p = rw (length-list_of (tasks_in image p))
-
--- a list of times over zeros: those beyond it stay 0
-pub over_zeros :
-    (n m : ℕ) (f : ℕ → ℕ) (l : List ℕ) (i : ℕ) → m ≤ n
-    → sets (sets l i (padded n [])) i (list_of m f) ≡ sets l i (list_of n (λ k. get_or (list_of m f) k 0))
-over_zeros n m f l i within =
-    let long : length (padded n (list_of m f)) ≡ n = length-padded n (list_of m f) (rw (length-list_of m f) within) in
-    let room : length (list_of m f) ≤ n = rw (length-list_of m f) within in
-    let same : padded n (list_of m f) ≡ list_of n (λ k. get_or (list_of m f) k 0) =
-    ext_get_or 0 (padded n (list_of m f)) (list_of n (λ k. get_or (list_of m f) k 0)) (long ∙ sym (length-list_of n (λ k. get_or (list_of m f) k 0)))
-    (λ k below. get_or-padded n (list_of m f) k ∙ sym (get_or-list_of n (λ k. get_or (list_of m f) k 0) k 0 (rw long at below))) in
-    let none : length (padded n []) ≡ n = length-padded n [] (omega arith) in
-    rw add-zero at (sets-within (list_of m f) (padded n []) l i 0 (omega arith))
-    ∙ ap (λ (x : List ℕ). sets l i x) (sets-padded n [] (list_of m f) (omega arith) ∙ same)
 
 -- each group is as long as its cells are many
 

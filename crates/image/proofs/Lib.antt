@@ -2,3 +2,4 @@ pub mod Cells
 pub mod DueAt
 pub mod Filled
 pub mod Decoded
+pub mod Walk

@@ -1,9 +1,9 @@
 -- Document 01's last image read in front of cells that held sevens, computed: with as many cells as a row has and one more, and with
 -- three; and the same with a deadline of 0 in front of those three. And what it asks of a deadline that is a tick short.
-use Rattle.std.specs.Prelude.{◌≡◌, refl, List, [], ◌∷◌, ℕ, ◌+◌, take, drop, set, replicate}
+use Rattle.std.specs.Prelude.{◌≡◌, refl, List, [], ◌∷◌, ℕ, ◌+◌, take, drop, set, replicate, Some}
 use Rattle.std.proofs.Common.{lit<, lit≤}
 use Rattle.refusals.specs.declared.Refusal.TheVariants.{DeadlineZero, NoRoom}
-use Rattle.refusals.specs.declared.Answer.TheVariants.{Accepted, Refused}
+use Rattle.refusals.specs.Answer.{accepted, refused as refused_with}
 use Rattle.table.specs.Lists.{joined}
 use Rattle.table.specs.Table.{transactions, transaction, tasks, task, modes, offset, deadline, time}
 use Rattle.table.specs.Keepable.{greatest_time}
@@ -13,7 +13,7 @@ use Rattle.format.specs.Computing.{computing}
 use Rattle.row.specs.Row.{row_cells, tasks_cell, of_transaction, of_task}
 use Rattle.image.specs.Fill.{tasks_cells, heads_in, of_tasks_in, every_task_in, transactions_over, filled_over}
 use Rattle.image.specs.Read.{front_fault, front_over}
-use Rattle.image.specs.declared.due.Due.TheVariants.{Of}
+use Rattle.image.specs.declared.due.Due.{Due}
 use Rattle.image.specs.Due.{DueAt}
 
 abbrev sevens : ℕ → List ℕ
@@ -23,9 +23,9 @@ abbrev after : List ℕ → ℕ → List ℕ
 after image n = front_over (front_fault image (sevens n)) image (sevens n)
 
 answers :
-    (front_fault last (sevens (row_cells + 1)) ≡ Accepted)
-    × (front_fault last (sevens 3) ≡ Refused NoRoom 0)
-    × (front_fault (set last 20 0) (sevens 3) ≡ Refused DeadlineZero 139)
+    (front_fault last (sevens (row_cells + 1)) ≡ accepted)
+    × (front_fault last (sevens 3) ≡ refused_with NoRoom 0)
+    × (front_fault (set last 20 0) (sevens 3) ≡ refused_with DeadlineZero 139)
 unfolding computing
 answers = (refl, refl, refl)
 
@@ -44,7 +44,10 @@ unfolding computing
 refused = (refl, refl)
 
 -- with a deadline of 2: at its place it is told with offset 0 and time 3
-due : DueAt (set last 20 0x10) 139 (Of 0 3 2)
+abbrev told : Due
+told = record { offset = 0; time = 3; deadline = 2 }
+
+due : DueAt (set last 20 0x10) 139 (Some told)
 unfolding computing transactions transaction tasks task modes offset deadline time greatest_time
 due =
     record {

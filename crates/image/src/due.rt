@@ -1,27 +1,31 @@
 // What a task asks of its deadline, in numbers: for the words of a deadline that is refused as too short.
 ghost use Rattle.image.specs.Due.{DueAt};
 
-use super::parts::greatest_time;
+use super::parts::TaskAt;
 use places::Spot;
-use row::Task;
 
+// A task's offset, its greatest time and its deadline.
 #[derive(Clone, Copy)]
-pub enum Due {
-    // Its offset, its greatest time and its deadline.
-    Of(u32, u32, u32),
-    NoTask,
+pub struct Due {
+    pub offset: u32,
+    pub time: u32,
+    pub deadline: u32,
 }
 
-// Of the task of which some field holds a bit position.
-pub fn due_at(image: &[u8], place: usize) -> Due
+// Of the task of which some field holds a bit position, if there is one.
+pub fn due_at(image: &[u8], place: usize) -> Option<Due>
     ensures { DueAt image.now place result }
 {
     match places::task_at(image, place) {
-        Spot::Task(at, modes) => Due::Of(
-            bits::value(image, at, Task::OFFSET_WIDTH),
-            greatest_time(image, modes, at + Task::TIMES_AT),
-            bits::value(image, at + Task::DEADLINE_AT, Task::DEADLINE_WIDTH),
-        ),
-        Spot::NoTask => Due::NoTask,
+        Spot::Task(at, modes) => {
+            let task = TaskAt { image, at, modes };
+            let body = task.body();
+            Some(Due {
+                offset: body.offset,
+                time: task.greatest_time(),
+                deadline: body.deadline,
+            })
+        }
+        Spot::NoTask => None,
     }
 }

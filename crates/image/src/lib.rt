@@ -8,7 +8,7 @@ ghost use Rattle.format.specs.Places.{longest_image};
 ghost use Rattle.image.specs.Read.{row_for, row_over, front_fault, front_over};
 
 pub use due::{Due, due_at};
-use refusals::{Answer, Refusal};
+use refusals::{Answer, Refusal, check};
 use row::{Table, Task, Transaction};
 
 mod due;
@@ -16,7 +16,8 @@ mod fill;
 mod parts;
 mod scan;
 
-// What is said of an image, and beside it the table: the empty one where the image is refused.
+// What is said of an image, and beside it the table: the empty one where the image is refused, which the clause `table` of `read` says, so
+// that it is no `Result<Table, Fault>`.
 #[derive(Clone, Copy)]
 pub struct Reading {
     pub answer: Answer,
@@ -52,30 +53,21 @@ pub fn read_into(image: &[u8], cells: &mut [u32; Table::CELLS]) -> Answer
     ensures value { result ≡ image_fault image.now }
     ensures cells_after { cells.new ≡ row_over (image_fault image.now) image.now cells.old }
 {
-    let answer = scan::first_fault(image);
-    let sound = answer.is_accepted();
-    if sound {
-        *cells = [0u32; Table::CELLS];
-        fill::fill(image, cells);
-        return Answer::Accepted;
-    }
-    answer
+    scan::first_fault(image)?;
+    *cells = [0u32; Table::CELLS];
+    fill::fill(image, cells);
+    Ok(())
 }
 
 // The same into the front of lent cells: those of the table's fields are stored, and the others stay as they were. Cells
 // fewer than a row has are refused after all faults of the image.
+#[tactic(auto, using(std::proofs::lemmas::Bool::Decides::nat_tests), unfolding(refusals::proofs::Findings::joining, refusals::specs::Answer::checked))]
 pub fn read_in_front(image: &[u8], cells: &mut [u32]) -> Answer
     ensures value { result ≡ front_fault image.now cells.old }
     ensures cells_after { cells.new ≡ front_over (front_fault image.now cells.old) image.now cells.old }
 {
-    let answer = scan::first_fault(image);
-    let sound = answer.is_accepted();
-    if sound {
-        if Table::CELLS <= cells.len() {
-            fill::fill(image, cells);
-            return Answer::Accepted;
-        }
-        return Answer::Refused(Refusal::NoRoom, 0);
-    }
-    answer
+    scan::first_fault(image)?;
+    check(Table::CELLS <= cells.len(), Refusal::NoRoom, 0)?;
+    fill::fill(image, cells);
+    Ok(())
 }

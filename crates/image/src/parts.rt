@@ -1,61 +1,119 @@
-// The parts of an image by the bit position where each starts: what stands before its tasks, what stands before a task's times, and the
-// greatest of these.
-ghost use Rattle.std.specs.Prelude.{◌≡◌, ◌+◌, ◌*◌, ◌<◌, ◌^◌};
-ghost use Rattle.bits.specs.Bits.{value_at};
+// The parts of an image by the bit position where each starts: a transaction, with what stands before its tasks, and a task.
+ghost use Rattle.std.specs.Prelude.{◌≡◌, ◌<◌, ◌^◌};
 ghost use Rattle.table.specs.Sum.{greatest};
-ghost use Rattle.table.specs.Limits.{time_width};
-ghost use Rattle.format.specs.Places.{task_at};
+ghost use Rattle.format.specs.Places.{task_at, time_at};
+ghost use Rattle.format.specs.Said.{time_in};
 ghost use Rattle.image.specs.Head.{head_at, body_at};
 
 use row::{Task, Transaction};
 
-// What the image says of the transaction that starts at a bit position.
-pub(crate) fn head_at(image: &[u8], at: usize) -> Transaction
-    requires { at < 2 ^ 32 }
-    ensures { result ≡ head_at image.now at }
-{
-    let modes = bits::value(image, at + Transaction::MODES_AT, Transaction::MODES_WIDTH);
-    let tasks = bits::value(image, at + Transaction::TASKS_AT, Transaction::TASKS_WIDTH);
-    let period = bits::value(image, at, Transaction::PERIOD_WIDTH);
-    Transaction::new(period, modes as usize, tasks as usize)
+// A transaction of an image: where it starts, and its head, which is read once.
+#[derive(Clone, Copy)]
+pub(crate) struct TransactionAt<'a> {
+    pub image: &'a [u8],
+    pub at: usize,
+    pub head: Transaction,
+    ghost at_bound: { at < 2 ^ 30 },
+    ghost head_value: { head ≡ head_at image.now at },
+    ghost modes_bound: { head.modes < 16 },
+    ghost tasks_bound: { head.tasks < 32 },
 }
 
-// Where a transaction of those counts ends, by the bit position where it starts.
-pub(crate) fn end_of(at: usize, held: Transaction) -> usize
-    requires at_bound { at < 2 ^ 32 }
-    requires modes_bound { held.modes < 16 }
-    requires tasks_bound { held.tasks < 32 }
-    ensures { result ≡ task_at at held.modes held.tasks }
-{
-    at + Transaction::WIDTH + held.tasks * (Task::TIMES_AT + held.modes * Task::TIME_WIDTH)
-}
-
-// What the image says of the task that starts at a bit position.
-pub(crate) fn body_at(image: &[u8], at: usize) -> Task
-    requires { at < 2 ^ 32 }
-    ensures { result ≡ body_at image.now at }
-{
-    Task::new(
-        bits::value(image, at, Task::OFFSET_WIDTH),
-        bits::value(image, at + Task::JITTER_AT, Task::JITTER_WIDTH),
-        bits::value(image, at + Task::BLOCKING_AT, Task::BLOCKING_WIDTH),
-        bits::value(image, at + Task::DEADLINE_AT, Task::DEADLINE_WIDTH),
-        bits::value(image, at + Task::PRIORITY_AT, Task::PRIORITY_WIDTH),
-    )
-}
-
-// The greatest of the times that start at a bit position, one for each mode.
-pub(crate) fn greatest_time(image: &[u8], modes: usize, at: usize) -> u32
-    requires modes_bound { modes < 16 }
-    requires at_bound { at < 2 ^ 33 }
-    ensures { result ≡ greatest modes (λ k. value_at image.now (at + k * time_width) time_width) }
-{
-    let mut most: u32 = 0;
-    let mut k: usize = 0;
-    while k < modes {
-        let time = bits::value(image, at + k * Task::TIME_WIDTH, Task::TIME_WIDTH);
-        most = rules::greater(most, time);
-        k += 1;
+impl<'a> TransactionAt<'a> {
+    pub fn new(image: &'a [u8], at: usize) -> TransactionAt<'a>
+        requires { at < 2 ^ 30 }
+        ensures image_value { result.image ≡ image.entry }
+        ensures at_value { result.at ≡ at }
+    {
+        let modes = bits::value(image, at + Transaction::MODES_AT, Transaction::MODES_WIDTH);
+        let tasks = bits::value(image, at + Transaction::TASKS_AT, Transaction::TASKS_WIDTH);
+        let period = bits::value(image, at, Transaction::PERIOD_WIDTH);
+        let head = Transaction::new(period, modes as usize, tasks as usize);
+        TransactionAt { image, at, head }
     }
-    most
+
+    // Its task number j, or where one more would stand.
+    pub fn task(self, j: usize) -> TaskAt<'a>
+        requires { j < 32 }
+        ensures image_value { result.image ≡ self.entry.image }
+        ensures at_value { result.at ≡ task_at self.entry.at self.entry.head.modes j }
+        ensures modes_value { result.modes ≡ self.entry.head.modes }
+    {
+        let modes = self.head.modes;
+        let at = self.at + Transaction::WIDTH + j * (Task::TIMES_AT + modes * Task::TIME_WIDTH);
+        TaskAt {
+            image: self.image,
+            at,
+            modes,
+        }
+    }
+
+    // Where it ends.
+    pub fn end(self) -> usize
+        ensures { result ≡ task_at self.entry.at self.entry.head.modes self.entry.head.tasks }
+    {
+        self.task(self.head.tasks).at
+    }
+}
+
+// A task of an image: where it starts, and how many modes it has.
+#[derive(Clone, Copy)]
+pub(crate) struct TaskAt<'a> {
+    pub image: &'a [u8],
+    pub at: usize,
+    pub modes: usize,
+    ghost at_bound: { at < 2 ^ 32 },
+    ghost modes_bound: { modes < 16 },
+}
+
+impl TaskAt<'_> {
+    // What stands before its times.
+    pub fn body(self) -> Task
+        ensures { result ≡ body_at self.entry.image.now self.entry.at }
+    {
+        Task::new(
+            bits::value(self.image, self.at, Task::OFFSET_WIDTH),
+            bits::value(self.image, self.at + Task::JITTER_AT, Task::JITTER_WIDTH),
+            bits::value(
+                self.image,
+                self.at + Task::BLOCKING_AT,
+                Task::BLOCKING_WIDTH,
+            ),
+            bits::value(
+                self.image,
+                self.at + Task::DEADLINE_AT,
+                Task::DEADLINE_WIDTH,
+            ),
+            bits::value(
+                self.image,
+                self.at + Task::PRIORITY_AT,
+                Task::PRIORITY_WIDTH,
+            ),
+        )
+    }
+
+    // Where its time in a mode stands.
+    pub fn time_at(self, m: usize) -> usize
+        requires { m < 16 }
+        ensures { result ≡ time_at self.entry.at m }
+    {
+        self.at + Task::TIMES_AT + m * Task::TIME_WIDTH
+    }
+
+    pub fn time(self, m: usize) -> u32
+        requires { m < 16 }
+        ensures { result ≡ time_in self.entry.image.now self.entry.at m }
+    {
+        bits::value(self.image, self.time_at(m), Task::TIME_WIDTH)
+    }
+
+    pub fn greatest_time(self) -> u32
+        ensures { result ≡ greatest self.entry.modes (time_in self.entry.image.now self.entry.at) }
+    {
+        let mut most: u32 = 0;
+        for m in 0..self.modes {
+            most = most.max(self.time(m));
+        }
+        most
+    }
 }

@@ -1,15 +1,13 @@
-// The first fault of an image, front to back. Reading a field is total, so each check reads its field whether the image
-// holds it or not: that it does is a check of its own that stands before, and what is read past a fault cannot show.
-ghost use Rattle.std.specs.Prelude.{◌≡◌, true, ◌+◌, ◌*◌, ◌^◌, ◌<◌};
+// The first fault of an image, front to back. Reading a field is total, so a field is read whether the image holds it or not: that it
+// does is a check of its own that stands before, and what is read past a fault cannot show.
+ghost use Rattle.std.specs.Prelude.{◌≡◌, true, ◌+◌, ◌*◌, ◌^◌, ◌<◌, IsTrue};
 ghost use Rattle.table.specs.Limits.{time_width};
-ghost use Rattle.refusals.specs.Answer.{first_of};
-ghost use Rattle.refusals.specs.declared.Answer.TheVariants.{Accepted};
-ghost use Rattle.format.specs.Places.{task_width};
+ghost use Rattle.refusals.specs.Answer.{accepted, first_of};
+ghost use Rattle.format.specs.Places.{task_at, time_at};
 ghost use Rattle.format.specs.Said.{frame_in};
-ghost use Rattle.image.specs.Head.{head_at};
 ghost use Rattle.format.specs.Fault.{ends_at, header_fault, task_fault, head_fault, transaction_fault, end_fault, body_fault, image_fault};
 
-use super::parts::{end_of, greatest_time, head_at};
+use super::parts::{TaskAt, TransactionAt};
 use refusals::{Answer, Refusal, check};
 use row::{Table, Task, Transaction};
 
@@ -20,161 +18,120 @@ fn ends(image: &[u8], at: usize, width: usize) -> Answer
     check(bits::inside(image, at, width), Refusal::EndsInside, at)
 }
 
+#[tactic(auto, unfolding(refusals::proofs::Findings::joining, table::specs::Rules::header_rules))]
 fn header(image: &[u8]) -> Answer
     ensures { result ≡ header_fault image.now }
 {
     let edition = bits::value(image, 0, Table::EDITION_WIDTH);
     let frame = bits::value(image, Table::FRAME_AT, Table::FRAME_WIDTH);
     let count = bits::value(image, Table::COUNT_AT, Table::TRANSACTIONS_WIDTH) as usize;
-    ends(image, 0, Table::EDITION_WIDTH)
-        .then(rules::edition(edition, 0))
-        .then(ends(image, Table::FRAME_AT, Table::FRAME_WIDTH))
-        .then(rules::frame(frame, Table::FRAME_AT))
-        .then(ends(image, Table::COUNT_AT, Table::TRANSACTIONS_WIDTH))
-        .then(rules::transactions(count, Table::COUNT_AT))
+    ends(image, 0, Table::EDITION_WIDTH)?;
+    rules::edition(edition, 0)?;
+    ends(image, Table::FRAME_AT, Table::FRAME_WIDTH)?;
+    rules::frame(frame, Table::FRAME_AT)?;
+    ends(image, Table::COUNT_AT, Table::TRANSACTIONS_WIDTH)?;
+    rules::transactions(count, Table::COUNT_AT)
 }
 
-// The image ends inside one of the times that start at a bit position, one for each mode.
-fn times_end(image: &[u8], modes: usize, at: usize) -> Answer
-    requires modes_bound { modes < 16 }
-    requires at_bound { at < 2 ^ 33 }
-    ensures { result ≡ first_of modes (λ k. ends_at image.now (at + k * time_width) time_width) }
+// The image ends inside one of a task's times.
+fn times_end(task: TaskAt) -> Answer
+    ensures { result ≡ first_of task.entry.modes (λ m. ends_at task.entry.image.now (time_at task.entry.at m) time_width) }
 {
-    let mut found = Answer::Accepted;
-    let mut k: usize = 0;
-    while k < modes {
-        found = found.then(ends(image, at + k * Task::TIME_WIDTH, Task::TIME_WIDTH));
-        k += 1;
+    for m in 0..task.modes {
+        ends(task.image, task.time_at(m), Task::TIME_WIDTH)?;
     }
-    found
+    Ok(())
 }
 
-fn task_fault(image: &[u8], modes: usize, at: usize) -> Answer
-    requires modes_bound { modes < 16 }
-    requires at_bound { at < 2 ^ 32 }
-    ensures { result ≡ task_fault image.now modes at }
+#[tactic(auto, unfolding(refusals::proofs::Findings::joining, table::specs::Rules::task_rules))]
+fn task_fault(task: TaskAt) -> Answer
+    ensures { result ≡ task_fault task.entry.image.now task.entry.modes task.entry.at }
 {
-    let jitter = at + Task::JITTER_AT;
-    let blocking = at + Task::BLOCKING_AT;
+    let TaskAt { image, at, .. } = task;
     let deadline = at + Task::DEADLINE_AT;
-    let priority = at + Task::PRIORITY_AT;
     let times = at + Task::TIMES_AT;
     let offset = bits::value(image, at, Task::OFFSET_WIDTH);
     let due = bits::value(image, deadline, Task::DEADLINE_WIDTH);
-    let time = greatest_time(image, modes, times);
-    ends(image, at, Task::OFFSET_WIDTH)
-        .then(ends(image, jitter, Task::JITTER_WIDTH))
-        .then(ends(image, blocking, Task::BLOCKING_WIDTH))
-        .then(ends(image, deadline, Task::DEADLINE_WIDTH))
-        .then(rules::deadline(due, deadline))
-        .then(ends(image, priority, Task::PRIORITY_WIDTH))
-        .then(times_end(image, modes, times))
-        .then(rules::times(time, times))
-        .then(rules::keepable(offset, time, due, deadline))
+    let time = task.greatest_time();
+    ends(image, at, Task::OFFSET_WIDTH)?;
+    ends(image, at + Task::JITTER_AT, Task::JITTER_WIDTH)?;
+    ends(image, at + Task::BLOCKING_AT, Task::BLOCKING_WIDTH)?;
+    ends(image, deadline, Task::DEADLINE_WIDTH)?;
+    rules::deadline(due, deadline)?;
+    ends(image, at + Task::PRIORITY_AT, Task::PRIORITY_WIDTH)?;
+    times_end(task)?;
+    rules::times(time, times)?;
+    rules::keepable(offset, time, due, deadline)
 }
 
 // A task that is there whole, runs and has a deadline that can be kept has no fault: then the deadline is not 0.
-fn is_sound(image: &[u8], modes: usize, at: usize) -> bool
-    requires modes_bound { modes < 16 }
-    requires at_bound { at < 2 ^ 32 }
-    ensures { result ≡ true → task_fault image.now modes at ≡ Accepted }
+fn is_sound(task: TaskAt) -> bool
+    ensures { IsTrue result → task_fault task.entry.image.now task.entry.modes task.entry.at ≡ accepted }
 {
-    let whole = bits::inside(image, at, Task::TIMES_AT + modes * Task::TIME_WIDTH);
-    if whole {
-        let time = greatest_time(image, modes, at + Task::TIMES_AT);
-        if 0 < time {
-            let offset = bits::value(image, at, Task::OFFSET_WIDTH);
-            let due = bits::value(image, at + Task::DEADLINE_AT, Task::DEADLINE_WIDTH);
-            return rules::is_keepable(offset, time, due);
-        }
+    let TaskAt { image, at, modes } = task;
+    if !bits::inside(image, at, Task::TIMES_AT + modes * Task::TIME_WIDTH) {
+        return false;
     }
-    false
+    let time = task.greatest_time();
+    let offset = bits::value(image, at, Task::OFFSET_WIDTH);
+    let due = bits::value(image, at + Task::DEADLINE_AT, Task::DEADLINE_WIDTH);
+    0 < time && rules::is_keepable(offset, time, due)
 }
 
 // Findings are put together only where there is one.
-fn task(image: &[u8], modes: usize, at: usize) -> Answer
-    requires modes_bound { modes < 16 }
-    requires at_bound { at < 2 ^ 32 }
-    ensures { result ≡ task_fault image.now modes at }
+fn task(task: TaskAt) -> Answer
+    ensures { result ≡ task_fault task.entry.image.now task.entry.modes task.entry.at }
 {
-    let sound = is_sound(image, modes, at);
-    if sound {
-        Answer::Accepted
+    if is_sound(task) {
+        Ok(())
     } else {
-        task_fault(image, modes, at)
+        task_fault(task)
     }
 }
 
-fn tasks(image: &[u8], modes: usize, count: usize, at: usize) -> Answer
-    requires modes_bound { modes < 16 }
-    requires count_bound { count < 32 }
-    requires at_bound { at < 2 ^ 31 }
-    ensures { result ≡ first_of count (λ j. task_fault image.now modes (at + j * task_width modes)) }
+// The counts and the period of a transaction, where `before` tasks stand before it.
+#[tactic(auto, unfolding(refusals::proofs::Findings::joining, table::specs::Rules::head_rules))]
+fn head_fault(frame: u32, before: usize, t: TransactionAt) -> Answer
+    requires { frame ≡ frame_in t.image.now }
+    ensures { result ≡ head_fault t.entry.image.now before t.entry.at }
 {
-    let size = Task::TIMES_AT + modes * Task::TIME_WIDTH;
-    let mut found = Answer::Accepted;
-    let mut j: usize = 0;
-    while j < count {
-        let sound = found.is_accepted();
-        if sound {
-            found = task(image, modes, at + j * size);
-        } else {
-            return found;
-        }
-        j += 1;
-    }
-    found
-}
-
-// The counts and the period of a transaction, where `before` tasks stand before it. Its head is read once, and handed on.
-fn head_fault(image: &[u8], frame: u32, before: usize, at: usize, held: Transaction) -> Answer
-    requires frame_value { frame ≡ frame_in image.now }
-    requires held_value { held ≡ head_at image.now at }
-    requires at_bound { at < 2 ^ 32 }
-    ensures { result ≡ head_fault image.now before at }
-{
+    let TransactionAt { image, at, head } = t;
     let modes = at + Transaction::MODES_AT;
     let tasks = at + Transaction::TASKS_AT;
-    ends(image, at, Transaction::PERIOD_WIDTH)
-        .then(rules::period(frame, held.period, at))
-        .then(ends(image, modes, Transaction::MODES_WIDTH))
-        .then(rules::modes(held.modes, modes))
-        .then(ends(image, tasks, Transaction::TASKS_WIDTH))
-        .then(rules::tasks(before, held.tasks, tasks))
+    ends(image, at, Transaction::PERIOD_WIDTH)?;
+    rules::period(frame, head.period, at)?;
+    ends(image, modes, Transaction::MODES_WIDTH)?;
+    rules::modes(head.modes, modes)?;
+    ends(image, tasks, Transaction::TASKS_WIDTH)?;
+    rules::tasks(before, head.tasks, tasks)
 }
 
-fn head(image: &[u8], frame: u32, before: usize, at: usize, held: Transaction) -> Answer
-    requires frame_value { frame ≡ frame_in image.now }
-    requires held_value { held ≡ head_at image.now at }
-    requires at_bound { at < 2 ^ 32 }
-    ensures { result ≡ head_fault image.now before at }
+fn head(frame: u32, before: usize, t: TransactionAt) -> Answer
+    requires { frame ≡ frame_in t.image.now }
+    ensures { result ≡ head_fault t.entry.image.now before t.entry.at }
 {
-    let whole = bits::inside(image, at, Transaction::WIDTH);
-    if whole {
-        let sound = rules::is_head(frame, before, held.period, held.modes, held.tasks);
-        if sound {
-            return Answer::Accepted;
-        }
+    let TransactionAt { image, at, head } = t;
+    if bits::inside(image, at, Transaction::WIDTH)
+        && rules::is_head(frame, before, head.period, head.modes, head.tasks)
+    {
+        return Ok(());
     }
-    head_fault(image, frame, before, at, held)
+    head_fault(frame, before, t)
 }
 
-fn transaction(image: &[u8], frame: u32, before: usize, at: usize, held: Transaction) -> Answer
-    requires frame_value { frame ≡ frame_in image.now }
-    requires held_value { held ≡ head_at image.now at }
-    requires at_bound { at < 2 ^ 30 }
-    ensures { result ≡ transaction_fault image.now before at }
+fn transaction(frame: u32, before: usize, t: TransactionAt) -> Answer
+    requires { frame ≡ frame_in t.image.now }
+    ensures { result ≡ transaction_fault t.entry.image.now before t.entry.at }
 {
-    let found = head(image, frame, before, at, held);
-    let sound = found.is_accepted();
-    if sound {
-        tasks(image, held.modes, held.tasks, at + Transaction::WIDTH)
-    } else {
-        found
+    head(frame, before, t)?;
+    for j in 0..t.head.tasks {
+        task(t.task(j))?;
     }
+    Ok(())
 }
 
 // Padding that starts at a bit position, and what follows it.
+#[tactic(auto, unfolding(refusals::proofs::Findings::joining, format::specs::Fault::end_fault))]
 fn end(image: &[u8], at: usize) -> Answer
     requires { at < 2 ^ 32 }
     ensures { result ≡ end_fault image.now at }
@@ -182,11 +139,8 @@ fn end(image: &[u8], at: usize) -> Answer
     let bytes = (at + 7) / 8;
     let next = 8 * bytes;
     let padding = bits::value(image, at, next - at);
-    check(padding == 0, Refusal::PaddingSet, at).then(check(
-        image.len() <= bytes,
-        Refusal::BytesFollow,
-        next,
-    ))
+    check(padding == 0, Refusal::PaddingSet, at)?;
+    check(image.len() <= bytes, Refusal::BytesFollow, next)
 }
 
 // The transactions, and the end of the image.
@@ -194,30 +148,22 @@ fn transactions(image: &[u8]) -> Answer
     ensures { result ≡ body_fault image.now }
 {
     let frame = bits::value(image, Table::FRAME_AT, Table::FRAME_WIDTH);
-    let count = bits::value(image, Table::COUNT_AT, Table::TRANSACTIONS_WIDTH) as usize;
-    let mut found = Answer::Accepted;
+    let count = bits::value(image, Table::COUNT_AT, Table::TRANSACTIONS_WIDTH);
     let mut before: usize = 0;
     let mut at = Table::FIRST_AT;
-    let mut u: usize = 0;
-    while u < count {
-        let held = head_at(image, at);
-        let sound = found.is_accepted();
-        if sound {
-            found = transaction(image, frame, before, at, held);
-        } else {
-            return found;
-        }
-        before += held.tasks;
-        at = end_of(at, held);
-        u += 1;
+    for u in 0..count {
+        let t = TransactionAt::new(image, at);
+        transaction(frame, before, t)?;
+        before += t.head.tasks;
+        at = t.end();
     }
-    found.then(end(image, at))
+    end(image, at)
 }
 
+#[tactic(auto, unfolding(refusals::proofs::Findings::joining, format::specs::Fault::image_fault, table::specs::Rules::table_rules))]
 pub(crate) fn first_fault(image: &[u8]) -> Answer
     ensures { result ≡ image_fault image.now }
 {
-    let found = header(image);
-    let sound = found.is_accepted();
-    if sound { transactions(image) } else { found }
+    header(image)?;
+    transactions(image)
 }

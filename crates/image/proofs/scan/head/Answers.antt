@@ -3,11 +3,8 @@ use mathlib.Core.Path.{sym, ◌∙◌}
 use Rattle.format.proofs.Sound.{whole-head}
 use Rattle.image.proofs.scan.head.Goals as goal
 
-pub returns-then-sound : goal.returns-then-sound
-returns-then-sound c =
-    let asked = c in
-    let whole = asked in
-    let start = whole in
-    let a = start.args in
-    sym (whole-head a.image.now a.before a.at (sym whole.inside-whole.ensures ∙ asked.if-whole.true)
-    (sym (rw (start.requires.held_value, start.requires.frame_value) at asked.is_head-sound.ensures) ∙ c.if-sound.true))
+pub returns-then-is_head : goal.returns-then-is_head
+returns-then-is_head c =
+    let t = c.args.t in
+    sym (whole-head t.image.now c.args.before t.at (sym c.inside.ensures ∙ c.if-inside.true)
+    (sym (rw (t.head_value, c.requires) at c.is_head.ensures) ∙ c.if-is_head.true))

@@ -1,18 +1,21 @@
--- `scan::task_fault` meets its contract: one chain of checks, rewritten by what each call ensures, the last first. That a task runs is
--- asked of its greatest time, and of the sum of its times in the rule.
-use native.Mathlib.Nat.{add-zero}
-use native.Mathlib.Omega.{arith}
+-- `scan::task_fault` meets its contract. That a task runs is asked of its greatest time, and of the sum of its times in the rule.
+use Rattle.std.proofs.Common.{rules}
 use Rattle.table.specs.Rules.{task_rules}
 use Rattle.table.proofs.Sum.{greatest-some}
-use Rattle.refusals.specs.Answer.{first_of}
-use Rattle.refusals.proofs.Findings.{one-rule}
+use Rattle.refusals.proofs.Findings.{joining}
+use Rattle.format.specs.Said.{time_in}
 use Rattle.image.proofs.scan.task_fault.Goals as goal
 
-pub times_end-requires : goal.times_end-requires
-times_end-requires c = record { modes_bound = omega (arith, c.requires); at_bound = omega (arith, c.requires) }
+pub returns-in_err-times : goal.returns-in_err-times
+unfolding joining task_rules
+returns-in_err-times c =
+    let t = c.args.task in
+    let runs = greatest-some t.modes (time_in t.image.now t.at) in
+    search rules
 
 pub returns : goal.returns
-unfolding task_rules first_of
+unfolding joining task_rules
 returns c =
-    rw (c.then-8.ensures, c.keepable.ensures, c.then-7.ensures, c.times.ensures, c.then-6.ensures, c.times_end.ensures, c.then-5.ensures, c.ends-5.ensures, c.then-4.ensures, c.deadline.ensures, c.then-3.ensures, c.ends-4.ensures, c.then-2.ensures, c.ends-3.ensures, c.then.ensures, c.ends-2.ensures, c.ends.ensures, c.greatest_time-time.ensures, c.value-due.ensures, c.value-offset.ensures, greatest-some, add-zero)
-    (one-rule _ _ _ _ _ _ _)
+    let t = c.args.task in
+    let runs = greatest-some t.modes (time_in t.image.now t.at) in
+    search rules

@@ -1,23 +1,30 @@
--- `scan::times_end` meets its contract. The invariant: what was found is the first finding of the first k times.
-use mathlib.Core.Path.{◌≡◌, refl}
-use Prim.Native.Nat.{◌-◌, zero-le}
-use native.Mathlib.Numerals.{add-one}
-use native.Mathlib.Omega.{arith}
-use Rattle.refusals.specs.Answer.{first_of}
+-- `scan::times_end` meets its contract. The invariant: nothing was found at the first m times.
+use Rattle.std.proofs.Common.{rules, ◌≡◌, Err}
+use mathlib.Core.Path.{refl, sym, ◌∙◌}
+use Prim.Native.Nat.{ℕ}
+use Rattle.table.specs.Limits.{time_width}
+use Rattle.refusals.specs.Answer.{Answer, first_of}
+use Rattle.refusals.proofs.Findings.{joining, passes, fails}
+use Rattle.format.specs.Places.{time_at}
+use Rattle.format.specs.Fault.{ends_at}
+use Rattle.image.specs.declared.parts.TaskAt.{TaskAt}
 use Rattle.image.proofs.scan.times_end.Goals as goal
 
-pub loop-k-init : goal.loop-k-init
-unfolding first_of
-loop-k-init c = (zero-le, refl)
+abbrev times : TaskAt → ℕ → Answer
+times task m = ends_at task.image.now (time_at task.at m) time_width
 
-pub loop-k-preserved : goal.loop-k-preserved
-unfolding first_of
-loop-k-preserved c = (
-  omega arith,
-  rw (add-one, first_of, ← c.loop-k.invariant.1, c.then-found.ensures, c.ends.ensures),
-)
+pub loop-m-init : goal.loop-m-init
+unfolding joining
+loop-m-init c = refl
 
-pub returns : goal.returns
-returns c =
-    let past : c.loop-k.k ≡ c.args.modes = omega arith in
-    rw (← past) c.loop-k.invariant.1
+pub returns-in_err-ends : goal.returns-in_err-ends
+returns-in_err-ends c =
+    let found = rw c.time_at.ensures at c.ends.ensures in
+    let all : first_of c.args.task.modes (times c.args.task) ≡ Err c.in_err-ends.field-0.0 =
+    fails (times c.args.task) c.args.task.modes c.loop-m.m _ c.loop-m-test.true c.loop-m.invariant (sym found ∙ c.in_err-ends.was) in
+    search rules
+
+pub loop-m-preserved : goal.loop-m-preserved
+loop-m-preserved c =
+    let found = rw c.time_at.ensures at c.ends.ensures in
+    passes (times c.args.task) c.loop-m.m c.loop-m.invariant (sym found ∙ c.in_ok-ends.was)

@@ -1,12 +1,9 @@
 use mathlib.Core.Path.{◌≡◌}
-use Prim.Native.Nat.{◌+◌, ◌-◌, ◌*◌, ◌≤◌}
 use Rattle.table.specs.Limits.{time_width}
-use Rattle.refusals.specs.Answer.{first_of}
+use Rattle.refusals.specs.Answer.{accepted, first_of}
+use Rattle.format.specs.Places.{time_at}
 use Rattle.format.specs.Fault.{ends_at}
 use Rattle.image.proofs.scan.times_end.Given as goal
 
-abbrev pub invariant-loop-k : goal.invariant-loop-k
-invariant-loop-k l = (l.k ≤ l.modes) × (l.found ≡ first_of l.k (λ i. ends_at l.image (l.at + i * time_width) time_width))
-
-abbrev pub decreases-loop-k : goal.decreases-loop-k
-decreases-loop-k l = l.modes - l.k
+abbrev pub invariant-loop-m : goal.invariant-loop-m
+invariant-loop-m l = first_of l.m (λ m. ends_at l.task.image.now (time_at l.task.at m) time_width) ≡ accepted

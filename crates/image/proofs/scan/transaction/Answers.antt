@@ -1,31 +1,57 @@
--- `scan::transaction` meets its contract: its tasks are looked at where its head is sound.
-use mathlib.Core.Path.{sym, ◌∙◌}
+-- `scan::transaction` meets its contract. The invariant: its head is sound, and nothing was found at its first j tasks.
+use Rattle.std.proofs.Common.{rules, ◌≡◌}
+use mathlib.Core.Path.{refl, sym, ◌∙◌}
+use mathlib.Core.List.{List}
+use Prim.Native.Nat.{ℕ}
 use native.Mathlib.Omega.{arith}
-use Rattle.refusals.specs.Answer.{◌then◌}
-use Rattle.refusals.proofs.Findings.{accepted-is, refused-then}
+use Rattle.refusals.specs.Answer.{Answer, accepted, first_of}
+use Rattle.refusals.proofs.Findings.{joining, passes, fails}
+use Rattle.format.specs.Places.{task_at}
+use Rattle.format.specs.Fault.{head_fault, task_fault, transaction_fault}
 use Rattle.format.proofs.Faults.{transaction-parts}
-use Rattle.format.proofs.Places.{modes-small, tasks-small}
+use Rattle.row.specs.declared.kinds.Transaction.{Transaction}
+use Rattle.image.specs.Head.{head_at}
 use Rattle.image.proofs.scan.transaction.Goals as goal
 
-pub tasks-requires : goal.tasks-requires
-tasks-requires c =
-    let start = c in
-    let image = start.args.image.now in
-    rw start.requires.held_value (omega (arith, modes-small image start.args.at, tasks-small image start.args.at))
+abbrev faults : List ℕ → (at m : ℕ) → ℕ → Answer
+faults image at m j = task_fault image m (task_at at m j)
 
-pub returns-then-sound : goal.returns-then-sound
-unfolding ◌then◌
-returns-then-sound c =
-    let asked = c in
-    rw (
-      transaction-parts _ _ _,
-      ← asked.head-found.ensures,
-      accepted-is asked.head-found.result (sym asked.is_accepted-sound.ensures ∙ c.if-sound.true),
-      c.tasks.ensures,
-      asked.requires.held_value,
-    )
+-- behind a sound head the answer is that of the tasks
+behind :
+    (image : List ℕ) (before at : ℕ) {head : Transaction} {a : Answer}
+    → head ≡ head_at image at
+    → head_fault image before at ≡ accepted
+    → first_of head.tasks (faults image at head.modes) ≡ a
+    → transaction_fault image before at ≡ a
+unfolding joining
+behind image before at said sound all = rw (transaction-parts image before at, sound) (rw said at all)
 
-pub returns-else-sound : goal.returns-else-sound
-returns-else-sound c =
-    let asked = c in
-    rw (transaction-parts _ _ _, ← asked.head-found.ensures) (sym (refused-then asked.head-found.result _ (sym asked.is_accepted-sound.ensures ∙ c.if-sound.false)))
+pub returns-in_err-head : goal.returns-in_err-head
+unfolding joining
+returns-in_err-head c =
+    let parts = transaction-parts c.args.t.image.now c.args.before c.args.t.at in
+    search rules
+
+pub loop-j-init : goal.loop-j-init
+unfolding joining
+loop-j-init c = refl
+
+pub returns-in_err-task : goal.returns-in_err-task
+returns-in_err-task c =
+    let t = c.args.t in
+    let task = rw (c.task.ensures.image_value, c.task.ensures.modes_value, c.task.ensures.at_value) at c.task-in-loop-j.ensures in
+    let all = fails (faults t.image.now t.at t.head.modes) t.head.tasks c.loop-j.j _ c.loop-j-test.true c.loop-j.invariant (sym task ∙ c.in_err-task.was) in
+    let found = behind t.image.now c.args.before t.at t.head_value (sym c.head.ensures ∙ c.in_ok-head.was) all in
+    search rules
+
+pub loop-j-preserved : goal.loop-j-preserved
+loop-j-preserved c =
+    let t = c.args.t in
+    let task = rw (c.task.ensures.image_value, c.task.ensures.modes_value, c.task.ensures.at_value) at c.task-in-loop-j.ensures in
+    passes (faults t.image.now t.at t.head.modes) c.loop-j.j c.loop-j.invariant (sym task ∙ c.in_ok-task.was)
+
+pub returns : goal.returns
+returns c =
+    let t = c.args.t in
+    let all : c.loop-j.j ≡ t.head.tasks = omega arith in
+    sym (behind t.image.now c.args.before t.at t.head_value (sym c.head.ensures ∙ c.in_ok-head.was) (rw all at c.loop-j.invariant))
