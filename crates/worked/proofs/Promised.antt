@@ -7,7 +7,7 @@ use lib.ListN.{get_or}
 use Rattle.table.specs.Table.{Table, transactions, transaction, tasks, IsTask}
 use Rattle.table.specs.Lists.{list_of, joined}
 use Rattle.table.specs.Kept.{Kept}
-use Rattle.refusals.specs.declared.Answer.TheVariants.{Accepted}
+use Rattle.refusals.specs.Answer.{accepted}
 use Rattle.format.specs.Said.{table_in}
 use Rattle.format.specs.Fault.{image_fault}
 use Rattle.bits.specs.Bits.{field_bits}
@@ -22,12 +22,12 @@ use Rattle.analysis.proofs.Answer.{answers}
 use Rattle.worked.specs.Promised.{Case, Promised, Each, first, cases}
 
 -- a table is kept where its image is accepted and says it
-pub keeps : (tab : Table) → image_fault (image_of tab) ≡ Accepted → table_in (image_of tab) ≡ tab → Kept tab
+pub keeps : (tab : Table) → image_fault (image_of tab) ≡ accepted → table_in (image_of tab) ≡ tab → Kept tab
 keeps tab ok same = subst Kept same (kept (image_of tab) ok)
 
 promised :
     (c : Case)
-    → image_fault (image_of c.tab) ≡ Accepted
+    → image_fault (image_of c.tab) ≡ accepted
     → table_in (image_of c.tab) ≡ c.tab
     → c.u < transactions c.tab
     → c.a < tasks c.tab c.u
@@ -45,7 +45,7 @@ promised c ok same owner place is =
 -- the case number k
 abbrev at :
     (k : ℕ)
-    → image_fault (image_of (get_or cases k first).tab) ≡ Accepted
+    → image_fault (image_of (get_or cases k first).tab) ≡ accepted
     → table_in (image_of (get_or cases k first).tab) ≡ (get_or cases k first).tab
     → (get_or cases k first).u < transactions (get_or cases k first).tab
     → (get_or cases k first).a < tasks (get_or cases k first).tab (get_or cases k first).u
