@@ -10,6 +10,11 @@ use Rattle.refusals.specs.declared.Fault.{Fault}
 use Rattle.std.specs.Prelude.{Ok, Err}
 use Rattle.refusals.specs.Answer.{Answer, accepted, refused, is_accepted, ◌then◌, found_of, first_of, checked}
 
+-- one name that opens how findings are joined, for functions that give them by `?`
+unfoldable pub joining : Unit {0}
+unfolding ◌then◌ found_of first_of
+joining = tt
+
 pub refused-then : (a b : Answer) → is_accepted a ≡ false → (a then b) ≡ a
 unfolding ◌then◌
 refused-then (Ok x) b h = cc
