@@ -4,7 +4,7 @@ use mathlib.Core.Path.{◌≡◌, refl, ◌∙◌}
 use mathlib.Core.List.{List}
 use Prim.Native.Nat.{ℕ}
 use borrow.Author.Tests.{ltb-true}
-use Rattle.refusals.specs.declared.Answer.TheVariants.{Accepted}
+use Rattle.refusals.specs.Answer.{accepted}
 use Rattle.refusals.proofs.Findings.{then-joins, held}
 use Rattle.table.specs.Table.{Table}
 use Rattle.table.specs.Limits.{limits}
@@ -25,12 +25,12 @@ module _ (tab : Table) where
   own-reads : Reads (table_look tab) tab
   own-reads = record { number = λ f has. refl }
 
-  module _ (ok : table_fault tab ≡ Accepted) where
+  module _ (ok : table_fault tab ≡ accepted) where
     sound : SoundTable limits keepable (table_look tab)
     unfolding table_fault
     sound = sound-table limits keepable then-joins (table_look tab) ok
 
-    own-clear : (f : Field) → IsField tab f → (table_look tab).finding f ≡ Accepted
+    own-clear : (f : Field) → IsField tab f → (table_look tab).finding f ≡ accepted
     unfolding number_in
     own-clear (Field.header f) has = sound.header.there f
     own-clear (Field.head u f) has = (sound.transaction u has).head.there f
@@ -46,10 +46,10 @@ module _ (tab : Table) where
     pub written-accepted : Timed tab → IsAccepted (image_of tab) × (table_in (image_of tab) ≡ tab)
     written-accepted timed = (refused-alike tab accepted-fits timed ∙ ok, read_back tab accepted-fits timed)
 
-  pub kept-accepted : Kept tab → table_fault tab ≡ Accepted
+  pub kept-accepted : Kept tab → table_fault tab ≡ accepted
   unfolding table_fault
   kept-accepted k = kept-rules own-reads k (fits-clear tab (kept-fits k)) then-joins
 
 -- what is read can be written
-pub write-back : (image : List ℕ) → IsAccepted image → table_fault (table_in image) ≡ Accepted
+pub write-back : (image : List ℕ) → IsAccepted image → table_fault (table_in image) ≡ accepted
 write-back image ok = kept-accepted (table_in image) (kept image ok)

@@ -3,8 +3,7 @@
 use mathlib.Core.Path.{◌≡◌, refl, ap₂}
 use Prim.Native.Nat.{ℕ, zero, suc, ◌<◌}
 use native.Mathlib.Omega.{arith}
-use Rattle.refusals.specs.declared.Answer.{Answer}
-use Rattle.refusals.specs.Answer.{found_of}
+use Rattle.refusals.specs.Answer.{Answer, found_of}
 use Rattle.table.specs.Sum.{sum}
 use Rattle.table.specs.Limits.{Limits}
 use Rattle.table.specs.Table.{Table, IsTask, transactions, modes, tasks}

@@ -5,8 +5,7 @@ use mathlib.Core.Logic.{◌⊎◌, inl, inr}
 use Prim.Native.Nat.{ℕ, ◌*◌, ◌≤◌}
 use Rattle.refusals.specs.declared.Refusal.{Refusal}
 use Rattle.refusals.specs.declared.Refusal.TheVariants.{TooLarge}
-use Rattle.refusals.specs.declared.Answer.TheVariants.{Refused}
-use Rattle.refusals.specs.Answer.{answer_place}
+use Rattle.refusals.specs.Answer.{refused, answer_place}
 use Rattle.refusals.proofs.Findings.{Only, only-checked}
 use Rattle.table.specs.Table.{Table}
 use Rattle.table.specs.Limits.{limits}
@@ -31,7 +30,7 @@ module _ (tab : Table) where
   own-found =
       only-table limits (table_look tab) keepable Own (λ f here. only-checked Own _ TooLarge _ (inr refl)) (λ f here r is. inl is)
 
-  pub only-rules : {r : Refusal} {at : ℕ} → table_fault tab ≡ Refused r at → IsRule r ⊎ (r ≡ TooLarge)
+  pub only-rules : {r : Refusal} {at : ℕ} → table_fault tab ≡ refused r at → IsRule r ⊎ (r ≡ TooLarge)
   only-rules e = rw e at own-found
 
   -- the rules come only to fields that the table has
@@ -49,12 +48,12 @@ module _ (tab : Table) where
     unfolding table_fault
     rules-found = only-table limits (table_look tab) keepable Ruled (λ f here. rw (fits-clear tab fits f (has f here)) tt) (λ f here r is. is)
 
-    pub only-own-rules : {r : Refusal} {at : ℕ} → table_fault tab ≡ Refused r at → IsRule r
+    pub only-own-rules : {r : Refusal} {at : ℕ} → table_fault tab ≡ refused r at → IsRule r
     only-own-rules e = rw e at rules-found
 
     -- so an image that was written never ends inside a field, has no padding bit that is 1, and no byte follows
     pub written-refused :
-        Timed tab → {r : Refusal} {at : ℕ} → image_fault (image_of tab) ≡ Refused r at → IsRule r
+        Timed tab → {r : Refusal} {at : ℕ} → image_fault (image_of tab) ≡ refused r at → IsRule r
     written-refused timed e = only-own-rules (sym (refused-alike tab fits timed) ∙ e)
 
   -- ---- how far

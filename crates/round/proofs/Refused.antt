@@ -1,15 +1,13 @@
 -- A table that is to be written is refused as its image is: by number and by place. Of an image that was written the end is
 -- never at fault.
-use mathlib.Core.Path.{◌≡◌, refl, sym, ap, ◌∙◌}
+use mathlib.Core.Path.{◌≡◌, sym, ap, ◌∙◌}
 use Prim.Native.Nat.{ℕ, ◌+◌, ◌-◌, ◌*◌, ◌≤◌}
 use native.Mathlib.Omega.{arith}
 use lib.ListN.{length}
 use borrow.Author.Tests.{le-leb, lt-ltb, eq-eqb}
 use Rattle.bits.specs.Bits.{value_at}
-use Rattle.refusals.specs.declared.Answer.{Answer}
-use Rattle.refusals.specs.declared.Answer.TheVariants.{Accepted, Refused}
-use Rattle.refusals.specs.Answer.{◌then◌}
-use Rattle.refusals.proofs.Findings.{then-joins, holds}
+use Rattle.refusals.specs.Answer.{Answer, accepted, ◌then◌}
+use Rattle.refusals.proofs.Findings.{then-joins, then-accepted, holds}
 use Rattle.table.specs.Table.{Table, transactions}
 use Rattle.table.specs.Limits.{limits}
 use Rattle.table.specs.Fields.{TaskField, Field, IsField, width, Fits, Timed}
@@ -33,25 +31,23 @@ module _ (tab : Table) (timed : Timed tab) where
   unfolding image_of
   padding = rw (length-table tab timed) at (padding-in (table_bits tab) (table-bits tab))
 
-  end-clear : end_fault (image_of tab) end ≡ Accepted
+  end-clear : end_fault (image_of tab) end ≡ accepted
   unfolding end_fault
   end-clear =
       then-joins.none (holds _ _ (eq-eqb _ _ padding))
       (holds _ _ (le-leb (length (image_of tab)) (bytes_to end) (omega (arith, written-length tab timed))))
 
-none_after : (a b : Answer) → b ≡ Accepted → (a then b) ≡ a
-unfolding ◌then◌
-none_after Accepted b h = h
-none_after (Refused r at) b h = refl
+none_after : (a b : Answer) → b ≡ accepted → (a then b) ≡ a
+none_after a b h = rw h (then-accepted a)
 
-pub fits-clear : (tab : Table) → Fits tab → (f : Field) → IsField tab f → (table_look tab).finding f ≡ Accepted
+pub fits-clear : (tab : Table) → Fits tab → (f : Field) → IsField tab f → (table_look tab).finding f ≡ accepted
 fits-clear tab fits f has = holds _ _ (lt-ltb _ _ (fits.below f has))
 
 module _ (tab : Table) (fits : Fits tab) (timed : Timed tab) where
   reads-back : Reads (image_look (image_of tab)) tab
   reads-back = record { number = said-back tab fits timed }
 
-  there-clear : (f : Field) → IsField tab f → (image_look (image_of tab)).finding f ≡ Accepted
+  there-clear : (f : Field) → IsField tab f → (image_look (image_of tab)).finding f ≡ accepted
   there-clear f has =
       let inside : place_in (image_of tab) f + width f ≤ 8 * length (image_of tab) = rw (place-back tab fits timed f has) (field-inside tab timed f has) in
       holds _ _ (le-leb _ _ inside)
