@@ -20,6 +20,8 @@ pub(crate) struct TransactionAt<'a> {
 }
 
 impl<'a> TransactionAt<'a> {
+    // In line: the scan and the fill are as quick as if each read the fields itself.
+    #[inline(always)]
     pub fn new(image: &'a [u8], at: usize) -> TransactionAt<'a>
         requires { at < 2 ^ 30 }
         ensures image_value { result.image ≡ image.entry }

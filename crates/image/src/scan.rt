@@ -111,9 +111,7 @@ fn head(frame: u32, before: usize, t: TransactionAt) -> Answer
     ensures { result ≡ head_fault t.entry.image.now before t.entry.at }
 {
     let TransactionAt { image, at, head } = t;
-    if bits::inside(image, at, Transaction::WIDTH)
-        && rules::is_head(frame, before, head.period, head.modes, head.tasks)
-    {
+    if bits::inside(image, at, Transaction::WIDTH) && rules::is_head(frame, before, head) {
         return Ok(());
     }
     head_fault(frame, before, t)

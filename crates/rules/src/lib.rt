@@ -71,10 +71,12 @@ pub fn tasks(before: usize, n: usize, at: usize) -> Answer
 }
 
 // The three rules of a transaction before its tasks at once.
-pub fn is_head(frame: u32, before: usize, period: u32, modes: usize, tasks: usize) -> bool
-    ensures { result ≡ (is_divisor frame period && (is_between 1 modes_most modes && (is_between 1 tasks_most tasks && leb (before + tasks) tasks_in_all))) }
+pub fn is_head(frame: u32, before: usize, head: Transaction) -> bool
+    ensures { result ≡ (is_divisor frame head.period && (is_between 1 modes_most head.modes && (is_between 1 tasks_most head.tasks && leb (before + head.tasks) tasks_in_all))) }
 {
-    divides(frame, period) && (1..=Transaction::MODES).contains(&modes) && few_tasks(before, tasks)
+    divides(frame, head.period)
+        && (1..=Transaction::MODES).contains(&head.modes)
+        && few_tasks(before, head.tasks)
 }
 
 pub fn deadline(n: u32, at: usize) -> Answer
