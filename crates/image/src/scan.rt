@@ -106,22 +106,15 @@ fn head_fault(frame: u32, before: usize, t: TransactionAt) -> Answer
     rules::tasks(before, head.tasks, tasks)
 }
 
-fn head(frame: u32, before: usize, t: TransactionAt) -> Answer
-    requires { frame ≡ frame_in t.image.now }
-    ensures { result ≡ head_fault t.entry.image.now before t.entry.at }
-{
-    let TransactionAt { image, at, head } = t;
-    if bits::inside(image, at, Transaction::WIDTH) && rules::is_head(frame, before, head) {
-        return Ok(());
-    }
-    head_fault(frame, before, t)
-}
-
+// Its findings are put together only where there is one.
 fn transaction(frame: u32, before: usize, t: TransactionAt) -> Answer
     requires { frame ≡ frame_in t.image.now }
     ensures { result ≡ transaction_fault t.entry.image.now before t.entry.at }
 {
-    head(frame, before, t)?;
+    let whole = bits::inside(t.image, t.at, Transaction::WIDTH);
+    if !whole || !rules::is_head(frame, before, t.head) {
+        head_fault(frame, before, t)?;
+    }
     for j in 0..t.head.tasks {
         task(t.task(j))?;
     }
