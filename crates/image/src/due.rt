@@ -17,11 +17,11 @@ pub fn due_at(image: &[u8], place: usize) -> Due
     ensures { DueAt image.now place result }
 {
     match places::task_at(image, place) {
-        Spot::Task(at, modes) => Due::Of(
+        Some(Spot { at, modes }) => Due::Of(
             bits::value(image, at, Task::OFFSET_WIDTH),
             greatest_time(image, modes, at + Task::TIMES_AT),
             bits::value(image, at + Task::DEADLINE_AT, Task::DEADLINE_WIDTH),
         ),
-        Spot::NoTask => Due::NoTask,
+        None => Due::NoTask,
     }
 }

@@ -7,7 +7,7 @@ use native.Mathlib.Nat.{div-add-mod', mod-lt, div-lt_iff_lt-mul, div-eq_of_lt-le
 use native.Mathlib.Decide.{dec_lt}
 use native.Mathlib.Omega.{arith}
 use borrow.Author.Tests.{lt-ltb, le-ltb}
-use Rattle.table.specs.Table.{transactions, modes, tasks}
+use Rattle.table.specs.Table.{transactions}
 use Rattle.table.specs.Fields.{HeaderField, HeadField, TaskField, Field, IsTaskField, IsField, width}
 use Rattle.table.specs.Fields.Field.{header, head, task}
 use Rattle.format.specs.Places.{first_at, head_width, task_width, task_at, past, start}
