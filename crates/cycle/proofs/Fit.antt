@@ -5,17 +5,22 @@ use Prim.Native.Nat.{ℕ, zero, suc, ◌+◌, ◌*◌, ◌/◌, ◌≤◌, ◌<�
 use native.Mathlib.Nat.{mul-zero, one-mul, add-mul, mul-le-mul_right, div-mul-le_self, div-le_self, div-add-mod', mod-lt, le_trans}
 use native.Mathlib.Decide.{dec_le, ℕ_discrete}
 use native.Mathlib.Omega.{arith}
+use Rattle.std.proofs.Common.{Option, Some, None}
+use Rattle.std.specs.Option.{SomeIff, unwrap_or}
 use Rattle.cycle.specs.Cycle.{times, Rounds}
 
-pub times_none : (x y : ℕ) → y ≡ 0 → times x y ≡ 0
+times_none : (x y : ℕ) → y ≡ 0 → times x y ≡ 0
 unfolding times
 times_none x zero e = refl
 times_none x (suc y) e = absurd (omega arith)
 
-pub times-some : (x y : ℕ) → ¬ (y ≡ 0) → times x y ≡ x / y
+-- the quotient, where there is one
+pub quotient-or-none : (r : Option ℕ) (x y : ℕ) → SomeIff r (0 < y) (x / y) → unwrap_or r 0 ≡ times x y
 unfolding times
-times-some x zero h = absurd (h refl)
-times-some x (suc y) h = refl
+quotient-or-none (Some z) x zero h = absurd (omega arith)
+quotient-or-none (Some z) x (suc y) h = h.1
+quotient-or-none None x zero h = refl
+quotient-or-none None x (suc y) h = absurd (h (omega arith))
 
 -- so many have room, and one more has not
 times-room : (x y : ℕ) → times x y * y ≤ x

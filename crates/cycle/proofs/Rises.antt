@@ -7,7 +7,7 @@ use native.Mathlib.Nat.{add-mul, mul_assoc, mul_comm, mul-add, div-add-mod', mod
 use native.Mathlib.Decide.{ℕ_discrete}
 use native.Mathlib.Omega.{arith}
 use Rattle.table.specs.Sum.{sum}
-use Rattle.table.specs.Table.{Table, IsTask, transactions, transaction, period, modes, tasks, time, blocking}
+use Rattle.table.specs.Table.{Table, IsTask, transactions, period, modes, tasks, time, blocking}
 use Rattle.table.specs.Limits.{horizon}
 use Rattle.table.specs.Kept.{Kept}
 use Rattle.table.proofs.Sum.{sum-le, sum-ext, sum-beside, sum-mul}
@@ -17,7 +17,7 @@ use Rattle.periods.specs.Charge.{released}
 use Rattle.periods.proofs.Phase.{phase-lt}
 use Rattle.periods.proofs.Charge.{rel}
 use Rattle.periods.proofs.Quotient.{split-later, rel-later}
-use Rattle.analysis.specs.Choice.{when, unless, most}
+use Rattle.analysis.specs.Choice.{when, unless}
 use Rattle.analysis.specs.Rival.{urgent?, rival?}
 use Rattle.analysis.specs.Charge.{phase_of, held_of, charge, greatest, others}
 use Rattle.analysis.specs.Bound.{last_job, own, demand, busy, Setting}

@@ -16,16 +16,12 @@ pub struct Due {
 pub fn due_at(image: &[u8], place: usize) -> Option<Due>
     ensures { DueAt image.now place result }
 {
-    match places::task_at(image, place) {
-        Spot::Task(at, modes) => {
-            let task = TaskAt { image, at, modes };
-            let body = task.body();
-            Some(Due {
-                offset: body.offset,
-                time: task.greatest_time(),
-                deadline: body.deadline,
-            })
-        }
-        Spot::NoTask => None,
-    }
+    let Spot { at, modes } = places::task_at(image, place)?;
+    let task = TaskAt { image, at, modes };
+    let body = task.body();
+    Some(Due {
+        offset: body.offset,
+        time: task.greatest_time(),
+        deadline: body.deadline,
+    })
 }

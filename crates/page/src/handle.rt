@@ -1,41 +1,134 @@
 // Standard output as the writers hold it.
-ghost use Rattle.std.specs.Prelude.{◌≡◌, pos, Some, IsTrue};
+ghost use Rattle.std.specs.Prelude.{◌≡◌, pos, Some, true};
 ghost use Rattle.std.specs.IoError.{raw_os_error};
-ghost use Rattle.page.specs.Handle.{number_of};
+ghost use Rattle.page.specs.Handle.{Agrees, Writes, number_of, whole};
 
+use crate::numbers::Grouped;
+use std::fmt::{Display, Formatter};
 use std::io::{Error, Print, Stdout};
+use std::{fmt, io};
 
-// Standard output, and errno's number of a write that failed.
+// The width of a column of numbers that are aligned.
+const ALIGNED: usize = 9;
+
+// Standard output, and errno's number of the write that failed. Behind it nothing is written.
 #[derive(Clone, Copy)]
 pub struct Out {
     to: Stdout,
-    code: i32,
+    lost: Option<i32>,
 }
 
 impl Out {
     pub fn new(to: Stdout) -> Out
-        ensures { number_of result ≡ pos 0 }
+        ensures reason { number_of result ≡ pos 0 }
+        ensures whole { whole result ≡ true }
     {
-        Out { to, code: 0 }
+        Out { to, lost: None }
     }
 
     // Why a write failed.
     pub fn reason(&self) -> Error
         ensures { raw_os_error result ≡ Some (number_of self.now) }
     {
-        Error::from_raw_os_error(self.code)
+        Error::from_raw_os_error(self.lost.unwrap_or(0))
     }
 
-    // Writes a text, and says whether it was taken; the number is another one only behind a write that was not.
-    pub(crate) fn write(&mut self, text: &[u8]) -> bool
-        ensures { IsTrue result → number_of self.new ≡ number_of self.old }
+    // Whether every write so far was taken, or why one was not.
+    pub(crate) fn state(&self) -> io::Result<()>
+        ensures { Agrees self.now result }
     {
+        match self.lost {
+            None => Ok(()),
+            Some(_) => Err(self.reason()),
+        }
+    }
+
+    pub fn say(&mut self, text: &[u8]) -> io::Result<()>
+        ensures { Writes self.old self.new result }
+    {
+        self.state()?;
         match self.to.write_all(text) {
-            Ok(()) => true,
+            Ok(()) => Ok(()),
             Err(e) => {
-                self.code = e.raw_os_error().unwrap_or(0);
-                false
+                self.lost = Some(e.raw_os_error().unwrap_or(0));
+                self.state()
             }
         }
+    }
+
+    // What `write!` calls.
+    pub fn write_fmt<D: Display + Drop>(&mut self, text: D) -> io::Result<()>
+        ensures { Writes self.old self.new result }
+    {
+        self.state()?;
+        let mut pieces = Formatter::new(Pieces(*self));
+        let told = pieces.write(text);
+        *self = pieces.into_inner().0;
+        // a text that could not be made is lost too
+        if told.is_err() {
+            self.lost = self.lost.or(Some(0));
+        }
+        self.state()
+    }
+
+    // A number, with blanks before it to fill a column.
+    pub fn number(&mut self, n: u64, width: usize) -> io::Result<()>
+        ensures { Writes self.old self.new result }
+    {
+        write!(self, "{n:>width$}")
+    }
+
+    // The same with a comma between thousands.
+    pub fn grouped(&mut self, n: u64, width: usize) -> io::Result<()>
+        ensures { Writes self.old self.new result }
+    {
+        write!(self, "{:>width$}", Grouped(n))
+    }
+
+    // A number behind a blank, in a column where the numbers are aligned.
+    pub fn cell(&mut self, n: u32, aligned: bool) -> io::Result<()>
+        ensures { Writes self.old self.new result }
+    {
+        let width = if aligned { ALIGNED } else { 0 };
+        write!(self, " {n:>width$}")
+    }
+
+    // A number with commas between two texts.
+    pub fn count(&mut self, before: &[u8], n: u64, after: &[u8]) -> io::Result<()>
+        ensures { Writes self.old self.new result }
+    {
+        self.say(before)?;
+        self.grouped(n, 0)?;
+        self.say(after)
+    }
+
+    // A line in red stands between the two; the line feed is behind it.
+    pub fn begin_line(&mut self, red: bool) -> io::Result<()>
+        ensures { Writes self.old self.new result }
+    {
+        if red {
+            self.say(b"\x1b[31m")
+        } else {
+            self.state()
+        }
+    }
+
+    pub fn end_line(&mut self, red: bool) -> io::Result<()>
+        ensures { Writes self.old self.new result }
+    {
+        if red {
+            self.say(b"\x1b[0m")?;
+        }
+        self.say(b"\n")
+    }
+}
+
+// The handle as the pieces of a text come to it.
+#[derive(Clone, Copy)]
+struct Pieces(Out);
+
+impl fmt::Write for Pieces {
+    fn write_str(&mut self, piece: &str) -> fmt::Result {
+        self.0.say(piece.as_bytes()).map_err(|_| fmt::Error)
     }
 }

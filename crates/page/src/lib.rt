@@ -3,12 +3,14 @@
 #![tactic(auto)]
 
 mod handle;
+mod numbers;
 mod sheet;
 
 ghost use Rattle.std.specs.Prelude.{◌<◌};
 ghost use Rattle.page.specs.Whole.{Keeps};
 
 pub use handle::Out;
+pub use numbers::Grouped;
 pub use sheet::{Pen, SHEET, byte, escaped, fill, flush, put};
 
 // The digits that a number may have, and its places with the commas between them.
@@ -22,7 +24,7 @@ const ALIGNED: usize = 9;
 pub fn say(out: &mut Out, whole: bool, text: &[u8]) -> bool
     ensures { Keeps whole result }
 {
-    if whole { out.write(text) } else { false }
+    if whole { out.say(text).is_ok() } else { false }
 }
 
 // Whole before, and whole after.

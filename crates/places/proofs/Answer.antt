@@ -12,6 +12,7 @@ use Rattle.format.specs.Said.{count_in, modes_in, table_in, tasks_before}
 use Rattle.format.specs.Fault.{place_in}
 use Rattle.format.proofs.Said.{said-before}
 use Rattle.places.specs.declared.Field.{Field}
+use Rattle.places.specs.declared.Owner.{Owner}
 use Rattle.places.specs.Held.{in_header, in_task, named, Held}
 use Rattle.places.specs.Held.Held.{within, behind}
 use Rattle.places.specs.Find.{header_field_at, task_field_at, part_at, part_in, holder_at, field_at}
@@ -44,8 +45,11 @@ module _ (image : List ℕ) where
   held-part : (u p : ℕ) → u < count_in image → Owns image u p → Held image p (named (λ v j. tasks_before image u + j) (part_in image u p))
   held-part u p below o = rw (part-name u p below) at (within (part_in image u p) (part-holds image u p below o))
 
-  pub held-owned : (p u before m q : ℕ) → OwnsAs image p u before m q → Held image p (named (λ v j. before + j) (part_at u m (p - q)))
-  held-owned p u before m q o = rw (o.tasks, o.modes, o.starts) (held-part u p o.counted o.owns)
+  pub held-owned :
+      {p : ℕ} (owner : Owner)
+      → OwnsAs image p owner
+      → Held image p (named (λ v j. owner.before + j) (part_at owner.transaction owner.modes (p - owner.at)))
+  held-owned {p} owner o = rw (o.tasks, o.modes, o.starts) (held-part owner.transaction p o.counted o.owns)
 
   -- there is an answer
   pub held_at : (p : ℕ) → Held image p (field_at image p)

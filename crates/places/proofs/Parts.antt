@@ -10,10 +10,11 @@ use borrow.Author.Tests.{lt-ltb, le-ltb}
 use Rattle.table.specs.Fields.{HeaderField, HeadField, TaskField, IsTaskField, width_in_header, width_in_head, width_in_task}
 use Rattle.format.specs.Places.{frame_at, count_at, first_at, modes_at, tasks_at, head_width, jitter_at, blocking_at, deadline_at, priority_at, times_at, place_in_header, place_in_head, place_in_task, task_width}
 use Rattle.places.specs.Held.{Among}
-use Rattle.places.specs.Find.{pick, header_field_at, head_field_at, task_field_at}
+use Rattle.std.proofs.Common.{if◌then◌else◌}
+use Rattle.places.specs.Find.{header_field_at, head_field_at, task_field_at}
 
 -- what holds on either side of a test
-pub split : {A : Type 0} (P : A → Type 0) (p b : ℕ) {x y : A} → (p < b → P x) → (b ≤ p → P y) → P (pick (ltb p b) x y)
+pub split : {A : Type 0} (P : A → Type 0) (p b : ℕ) {x y : A} → (p < b → P x) → (b ≤ p → P y) → P (if ltb p b then x else y)
 split P p b first second =
     elim (dec_lt p b) [
       | yes l ↦ rw (lt-ltb p b l) (first l)

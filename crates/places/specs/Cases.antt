@@ -1,5 +1,5 @@
 -- The field, and the task, that holds a bit position, computed at worked images.
-use Rattle.std.specs.Prelude.{◌≡◌, refl, List, [], ◌∷◌, ◌++◌, map, ℕ, take, replicate, set}
+use Rattle.std.specs.Prelude.{◌≡◌, refl, List, [], ◌∷◌, ◌++◌, map, Some, ℕ, take, replicate, set}
 use Rattle.std.proofs.Common.{lit<, lit≤}
 use Rattle.table.specs.Table.{transactions, transaction, tasks}
 use Rattle.table.specs.Number.{before, number}
@@ -8,7 +8,6 @@ use Rattle.format.specs.Computing as format
 use Rattle.format.specs.Fault.{image_fault}
 use Rattle.refusals.specs.Answer.{answer_place}
 use Rattle.places.specs.declared.Field.TheVariants.{Edition, Frame, Transactions, Period, Modes, Tasks, Offset, Jitter, Blocking, Deadline, Priority, Time, Behind}
-use Rattle.places.specs.declared.Spot.TheVariants.{Task}
 use Rattle.places.specs.Owner.{SpotAt}
 use Rattle.places.specs.Find.{part_at, owner_of, holder_at, field_at}
 
@@ -107,7 +106,7 @@ unfolding computing
 refused-fields = refl
 
 -- bit 432 of S is one of its last task's, which starts at 360 and has one mode
-S-task : SpotAt S 432 (Task 360 1)
+S-task : SpotAt S 432 (Some (record { at = 360; modes = 1 }))
 unfolding computing
 S-task =
     record {

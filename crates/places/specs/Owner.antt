@@ -1,13 +1,11 @@
 -- The transaction that a bit position behind the header lies in, and the task.
-use Rattle.std.specs.Prelude.{◌≡◌, List, ℕ, suc, ◌≤◌, ◌<◌}
+use Rattle.std.specs.Prelude.{◌≡◌, List, Option, Some, None, ℕ, suc, ◌≤◌, ◌<◌}
 use Rattle.table.specs.Fields.{TaskField}
 use Rattle.table.specs.Fields.Field.{task}
 use Rattle.format.specs.Places.{task_at, start}
 use Rattle.format.specs.Said.{count_in, modes_in, tasks_before}
 use Rattle.places.specs.declared.Owner.{Owner}
-use Rattle.places.specs.declared.Owner.TheVariants.{Transaction, Behind}
 use Rattle.places.specs.declared.Spot.{Spot}
-use Rattle.places.specs.declared.Spot.TheVariants.{Task, NoTask}
 use Rattle.places.specs.Held.{Holds}
 
 -- bit p is one of transaction u
@@ -15,18 +13,18 @@ pub record Owns (image : List ℕ) (u p : ℕ) : Type 0 where
   pub from : start image u ≤ p
   pub below : p < start image (suc u)
 
--- bit p is one of transaction u, of m modes, which starts at q, where `before` tasks stand before it
-pub record OwnsAs (image : List ℕ) (p u before m q : ℕ) : Type 0 where
-  pub counted : u < count_in image
-  pub owns : Owns image u p
-  pub tasks : before ≡ tasks_before image u
-  pub modes : m ≡ modes_in image (start image u)
-  pub starts : q ≡ start image u
+-- bit p is one of that transaction
+pub record OwnsAs (image : List ℕ) (p : ℕ) (o : Owner) : Type 0 where
+  pub counted : o.transaction < count_in image
+  pub owns : Owns image o.transaction p
+  pub tasks : o.before ≡ tasks_before image o.transaction
+  pub modes : o.modes ≡ modes_in image (start image o.transaction)
+  pub starts : o.at ≡ start image o.transaction
 
 -- which transaction that is, or that p lies behind the last
-abbrev pub OwnedBy : List ℕ → (p : ℕ) → Owner → Type 0
-OwnedBy image p (Transaction u before m q) = OwnsAs image p u before m q
-OwnedBy image p Behind = start image (count_in image) ≤ p
+abbrev pub OwnedBy : List ℕ → (p : ℕ) → Option Owner → Type 0
+OwnedBy image p (Some o) = OwnsAs image p o
+OwnedBy image p None = start image (count_in image) ≤ p
 
 -- some field of the task of m modes that starts at q holds bit p
 pub record InTaskAt (image : List ℕ) (p q m : ℕ) : Type 0 where
@@ -38,6 +36,6 @@ pub record InTaskAt (image : List ℕ) (p q m : ℕ) : Type 0 where
   pub starts : q ≡ task_at (start image u) m j
 
 -- which task that is, or that no field of a task holds bit p
-abbrev pub SpotAt : List ℕ → (p : ℕ) → Spot → Type 0
-SpotAt image p (Task q m) = InTaskAt image p q m
-SpotAt image p NoTask = (u j : ℕ) (f : TaskField) → ¬ Holds image (task u j f) p
+abbrev pub SpotAt : List ℕ → (p : ℕ) → Option Spot → Type 0
+SpotAt image p (Some s) = InTaskAt image p s.at s.modes
+SpotAt image p None = (u j : ℕ) (f : TaskField) → ¬ Holds image (task u j f) p

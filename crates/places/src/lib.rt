@@ -32,16 +32,18 @@ pub enum Field {
 
 // Where a task starts, as a bit position, and how many modes it has.
 #[derive(Clone, Copy)]
-pub enum Spot {
-    Task(usize, usize),
-    NoTask,
+pub struct Spot {
+    pub at: usize,
+    pub modes: usize,
 }
 
 // A transaction of an image: its number, how many tasks stand before it, its modes, and where it starts.
 #[derive(Clone, Copy)]
-enum Owner {
-    Transaction(usize, usize, usize, usize),
-    Behind,
+struct Owner {
+    transaction: usize,
+    before: usize,
+    modes: usize,
+    at: usize,
 }
 
 // The field that holds a bit position, which counts from the most significant bit of the first byte.
@@ -52,68 +54,65 @@ pub fn field_at(image: &[u8], place: usize) -> Field
         return in_header(place);
     }
     match owner_at(image, place) {
-        Owner::Transaction(u, before, modes, at) => in_transaction(u, before, modes, place - at),
-        Owner::Behind => Field::Behind,
+        Some(owner) => in_transaction(owner, place - owner.at),
+        None => Field::Behind,
     }
 }
 
 // The task of which some field holds a bit position.
-pub fn task_at(image: &[u8], place: usize) -> Spot
+pub fn task_at(image: &[u8], place: usize) -> Option<Spot>
     ensures { SpotAt image.now place result }
 {
     if place < Table::FIRST_AT {
-        return Spot::NoTask;
+        return None;
     }
-    match owner_at(image, place) {
-        Owner::Transaction(_, _, modes, at) => {
-            let rest = place - at;
-            if rest < Transaction::WIDTH {
-                Spot::NoTask
-            } else {
-                Spot::Task(
-                    place - (rest - Transaction::WIDTH) % task_width(modes),
-                    modes,
-                )
-            }
-        }
-        Owner::Behind => Spot::NoTask,
-    }
+    let owner = owner_at(image, place)?;
+    let inner = (place - owner.at).checked_sub(Transaction::WIDTH)?;
+    Some(Spot {
+        at: place - inner % task_width(owner.modes),
+        modes: owner.modes,
+    })
 }
 
 // The transaction that a bit position behind the header lies in.
-fn owner_at(image: &[u8], place: usize) -> Owner
+fn owner_at(image: &[u8], place: usize) -> Option<Owner>
     requires { first_at ≤ place }
     ensures { OwnedBy image.now place result }
 {
-    let count = bits::value(image, Table::COUNT_AT, Table::TRANSACTIONS_WIDTH) as usize;
+    let count = bits::value(image, Table::COUNT_AT, Table::TRANSACTIONS_WIDTH);
     let mut before: usize = 0;
     let mut at = Table::FIRST_AT;
-    let mut u: usize = 0;
-    while u < count {
+    for u in 0..count as usize {
         let modes = modes_at(image, at);
         let tasks = tasks_at(image, at);
         let end = at + Transaction::WIDTH + tasks * task_width(modes);
         if place < end {
-            return Owner::Transaction(u, before, modes, at);
+            return Some(Owner {
+                transaction: u,
+                before,
+                modes,
+                at,
+            });
         }
         before += tasks;
         at = end;
-        u += 1;
     }
-    Owner::Behind
+    None
 }
 
 // What the image says of the transaction that starts at a bit position.
 fn modes_at(image: &[u8], at: usize) -> usize
     requires { at < 2 ^ 32 }
-    ensures { result ≡ modes_in image.now at }
+    ensures is { result ≡ modes_in image.now at }
+    ensures small { result < 16 }
 {
     bits::value(image, at + Transaction::MODES_AT, Transaction::MODES_WIDTH) as usize
 }
 
 fn tasks_at(image: &[u8], at: usize) -> usize
     requires { at < 2 ^ 32 }
-    ensures { result ≡ tasks_in image.now at }
+    ensures is { result ≡ tasks_in image.now at }
+    ensures small { result < 32 }
 {
     bits::value(image, at + Transaction::TASKS_AT, Transaction::TASKS_WIDTH) as usize
 }
@@ -126,63 +125,68 @@ fn task_width(modes: usize) -> usize
     Task::TIMES_AT + modes * Task::TIME_WIDTH
 }
 
+#[tactic(auto, using(std::proofs::lemmas::Bool::Decides::nat_tests))]
 fn in_header(place: usize) -> Field
     ensures { result ≡ in_header (header_field_at place) }
 {
     if place < Table::FRAME_AT {
-        return Field::Edition;
+        Field::Edition
+    } else if place < Table::COUNT_AT {
+        Field::Frame
+    } else {
+        Field::Transactions
     }
-    if place < Table::COUNT_AT {
-        return Field::Frame;
-    }
-    Field::Transactions
 }
 
-// The field so many bits behind the start of transaction u, of so many modes, where `before` tasks stand before it.
-fn in_transaction(u: usize, before: usize, modes: usize, rest: usize) -> Field
-    requires before_bound { before < 2 ^ 32 }
-    requires modes_bound { modes < 16 }
+// The field so many bits behind the start of a transaction.
+#[tactic(auto, using(std::proofs::lemmas::Bool::Decides::nat_tests), unfolding(crate::specs::Find::part_at))]
+fn in_transaction(owner: Owner, rest: usize) -> Field
+    requires before_bound { owner.before < 2 ^ 32 }
+    requires modes_bound { owner.modes < 16 }
     requires rest_bound { rest < 2 ^ 32 }
-    ensures { result ≡ named (λ v j. before + j) (part_at u modes rest) }
+    ensures { result ≡ named (λ v j. owner.before + j) (part_at owner.transaction owner.modes rest) }
 {
     if rest < Transaction::WIDTH {
-        return in_head(u, rest);
+        return in_head(owner.transaction, rest);
     }
     let inner = rest - Transaction::WIDTH;
-    let width = task_width(modes);
-    in_task(u, before + inner / width, inner % width)
+    let width = task_width(owner.modes);
+    in_task(
+        owner.transaction,
+        owner.before + inner / width,
+        inner % width,
+    )
 }
 
+#[tactic(auto, using(std::proofs::lemmas::Bool::Decides::nat_tests))]
 fn in_head(u: usize, rest: usize) -> Field
     ensures { result ≡ in_head u (head_field_at rest) }
 {
     if rest < Transaction::MODES_AT {
-        return Field::Period(u);
+        Field::Period(u)
+    } else if rest < Transaction::TASKS_AT {
+        Field::Modes(u)
+    } else {
+        Field::Tasks(u)
     }
-    if rest < Transaction::TASKS_AT {
-        return Field::Modes(u);
-    }
-    Field::Tasks(u)
 }
 
 // The field so many bits behind the start of task number k, a task of transaction u.
+#[tactic(auto, using(std::proofs::lemmas::Bool::Decides::nat_tests))]
 fn in_task(u: usize, k: usize, rest: usize) -> Field
     ensures { result ≡ in_task u k (task_field_at rest) }
 {
     if rest < Task::JITTER_AT {
-        return Field::Offset(u, k);
+        Field::Offset(u, k)
+    } else if rest < Task::BLOCKING_AT {
+        Field::Jitter(u, k)
+    } else if rest < Task::DEADLINE_AT {
+        Field::Blocking(u, k)
+    } else if rest < Task::PRIORITY_AT {
+        Field::Deadline(u, k)
+    } else if rest < Task::TIMES_AT {
+        Field::Priority(u, k)
+    } else {
+        Field::Time(u, k, (rest - Task::TIMES_AT) / Task::TIME_WIDTH)
     }
-    if rest < Task::BLOCKING_AT {
-        return Field::Jitter(u, k);
-    }
-    if rest < Task::DEADLINE_AT {
-        return Field::Blocking(u, k);
-    }
-    if rest < Task::PRIORITY_AT {
-        return Field::Deadline(u, k);
-    }
-    if rest < Task::TIMES_AT {
-        return Field::Priority(u, k);
-    }
-    Field::Time(u, k, (rest - Task::TIMES_AT) / Task::TIME_WIDTH)
 }

@@ -1,12 +1,12 @@
 -- When bytes are taken for a text: there are some, and each is a tab, a line feed, a carriage return or printable ASCII.
 use Rattle.std.specs.Prelude.{◌≡◌, refl, Bool, true, false, ◌&&◌, ◌||◌, List, [], ◌∷◌, ℕ, ltb, leb, eqb, length}
+use Rattle.std.specs.List.{list_all}
 
 unfoldable pub in_text : ℕ → Bool
 in_text b = eqb b 9 || eqb b 10 || eqb b 13 || (leb 32 b && leb b 126)
 
-unfoldable pub all_in_text : List ℕ → Bool
-all_in_text [] = true
-all_in_text (b ∷ bytes) = in_text b && all_in_text bytes
+abbrev pub all_in_text : List ℕ → Bool
+all_in_text bytes = list_all in_text bytes
 
 unfoldable pub is_text : List ℕ → Bool
 is_text bytes = all_in_text bytes && ltb 0 (length bytes)
@@ -22,10 +22,10 @@ controls = refl
 
 -- "10 00\n" and nothing at all; the first bytes of document 01's last image
 texts : is_text (49 ∷ 48 ∷ 32 ∷ 48 ∷ 48 ∷ 10 ∷ []) ∷ is_text [] ∷ is_text (16 ∷ 0 ∷ 0 ∷ 160 ∷ []) ∷ [] ≡ true ∷ false ∷ false ∷ []
-unfolding is_text all_in_text in_text
+unfolding is_text in_text
 texts = refl
 
 -- one byte that is in no text is enough
 last_byte : is_text (49 ∷ 48 ∷ 200 ∷ []) ≡ false
-unfolding is_text all_in_text in_text
+unfolding is_text in_text
 last_byte = refl

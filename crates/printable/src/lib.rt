@@ -2,37 +2,25 @@
 #![tactic(auto)]
 
 ghost use Rattle.std.specs.Prelude.{◌≡◌};
-ghost use Rattle.printable.specs.Text.{in_text, is_text};
+ghost use Rattle.printable.specs.Text.{in_text, all_in_text, is_text};
 
 // A byte that a text may have.
+#[tactic(auto, using(std::proofs::lemmas::Bool::Decides::nat_tests), unfolding(crate::specs::Text::in_text))]
 fn in_text(b: u8) -> bool
     ensures { result ≡ in_text b }
 {
-    if b == b'\t' {
-        return true;
-    }
-    if b == b'\n' {
-        return true;
-    }
-    if b == b'\r' {
-        return true;
-    }
-    if b < b' ' {
-        return false;
-    }
-    b <= b'~'
+    matches!(b, b'\t' | b'\n' | b'\r' | b' '..=b'~')
 }
 
+fn all_in_text(bytes: &[u8]) -> bool
+    ensures { result ≡ all_in_text bytes.now }
+{
+    bytes.iter().all(|b| in_text(*b))
+}
+
+#[tactic(auto, using(std::proofs::lemmas::Bool::Decides::nat_tests), unfolding(crate::specs::Text::is_text))]
 pub fn is_text(bytes: &[u8]) -> bool
     ensures { result ≡ is_text bytes.now }
 {
-    let mut i: usize = 0;
-    while i < bytes.len() {
-        let fits = in_text(bytes[i]);
-        if !fits {
-            return false;
-        }
-        i += 1;
-    }
-    0 < bytes.len()
+    !bytes.is_empty() && all_in_text(bytes)
 }

@@ -2,13 +2,14 @@
 use mathlib.Core.Path.{◌≡◌, refl, sym, ap, ◌∙◌}
 use mathlib.Core.List.{List, [], ◌∷◌}
 use Prim.Native.Nat.{ℕ, zero, suc, ◌+◌, ◌-◌, ◌*◌, ◌/◌, ◌%◌, ◌^◌, ◌≤◌, ◌<◌}
-use native.Mathlib.Nat.{add-zero, add-suc, mod-one, mul-one, mul_assoc, pow-suc}
+use native.Mathlib.Nat.{add-zero, add-suc, mod-one, mod-lt, mod-eq_of_lt, lt_of_lt_of_le, mul-one, mul_assoc, pow-suc}
 use native.Mathlib.Decide.{dec_lt}
 use native.Mathlib.Numerals.{add-one}
 use native.Mathlib.Omega.{arith}
 use lib.ListN.{length, get_or, set}
 use lib.Seq.{set-set, set_out, get_or-set_same}
-use lib.Pow.{shr-shr, shl_lt, shl-shr, mod-pow-add}
+use lib.Arith.{digits_lt}
+use lib.Pow.{shr-shr, shl_lt, shl-shr, shr_lt, mod-pow-add, pow_pos, pow-add, pow_mono}
 use Rattle.bits.specs.Bits.{value_at, field_bits}
 use Rattle.bits.specs.Put.{bit_put, bits_put}
 use Rattle.bits.proofs.Fields.{value-below}
@@ -99,3 +100,28 @@ put-in-byte bytes i from (suc t) v some within =
 pub put-whole-byte : (bytes : List ℕ) (i v : ℕ) → bits_put bytes (8 * i) (field_bits 8 v) ≡ set bytes i (v % 256)
 unfolding value_at
 put-whole-byte bytes i v = rw add-zero at (put-in-byte bytes i 0 8 v (omega arith) (omega arith)) ∙ ap (set bytes i) (omega arith)
+
+-- a byte's first bits and then t of a number's
+bits-below : (byte from t v : ℕ) → byte < 256 → from + t ≤ 8 → byte / 2 ^ (8 - from) * 2 ^ t + v % 2 ^ t < 2 ^ (from + t)
+bits-below byte from t v small within =
+    let whole : 8 ≡ from + (8 - from) = omega arith in
+    let eight : byte < 2 ^ (from + (8 - from)) = rw (← whole) small in
+    rw (pow-add 2 from t) (digits_lt (shr_lt from (8 - from) eight) (mod-lt v (pow_pos t)))
+
+-- with zeros behind them they are a byte
+pub joined-below :
+    (byte from t v : ℕ) → byte < 256 → from + t ≤ 8
+    → (byte / 2 ^ (8 - from) * 2 ^ t + v % 2 ^ t) * 2 ^ (8 - (from + t)) < 256
+joined-below byte from t v small within = head-below _ (from + t) (bits-below byte from t v small within) within
+
+-- and 32 bits lose none of them
+pub joined-exact :
+    (byte from t v : ℕ) → byte < 256 → from + t ≤ 8
+    → (byte / 2 ^ (8 - from) * 2 ^ t % 2 ^ 32 + v % (1 * 2 ^ t % 2 ^ 32)) * 2 ^ (8 - (from + t)) % 2 ^ 32
+    ≡ (byte / 2 ^ (8 - from) * 2 ^ t + v % 2 ^ t) * 2 ^ (8 - (from + t))
+joined-exact byte from t v small within =
+    let room : 2 ^ t ≤ 2 ^ 8 = pow_mono {j = 8} (omega arith) in
+    let bits : byte / 2 ^ (8 - from) * 2 ^ t + v % 2 ^ t < 2 ^ 8 = lt_of_lt_of_le (bits-below byte from t v small within) (pow_mono {j = 8} within) in
+    let one : 1 * 2 ^ t % 2 ^ 32 ≡ 2 ^ t = omega arith in
+    let before : byte / 2 ^ (8 - from) * 2 ^ t % 2 ^ 32 ≡ byte / 2 ^ (8 - from) * 2 ^ t = mod-eq_of_lt (omega arith) in
+    rw (one, before) (mod-eq_of_lt (omega (arith, joined-below byte from t v small within)))

@@ -16,12 +16,12 @@ pub fn put(buffer: &mut [u8], at: usize, width: usize, value: u32)
     // a byte and a bit of it, so that no sum wraps
     let first = at / 8;
     let from = at % 8;
-    let end = least(width, WIDEST);
+    let end = width.min(WIDEST);
     // a store of no bits would still clear what stands behind them
     if end == 0 {
         return;
     }
-    let take = least(8 - from, end);
+    let take = end.min(8 - from);
     let rest = end - take;
     put_chunk(buffer, first, from, take, value >> rest);
     if 0 < rest {
@@ -35,35 +35,14 @@ fn put_bytes(buffer: &mut [u8], first: usize, width: usize, value: u32)
     requires width_le_widest { width ≤ widest }
     ensures { buffer.new ≡ bits_put buffer.old (8 * first) (field_bits width value) }
 {
-    let mut byte = first;
-    let mut rest = width;
-    while 8 <= rest {
-        rest -= 8;
-        put_byte(buffer, byte, value >> rest);
-        byte += 1;
+    let whole = width / 8;
+    let rest = width % 8;
+    for k in 0..whole {
+        put_byte(buffer, first + k, value >> (width - 8 * (k + 1)));
     }
     if 0 < rest {
-        put_chunk(buffer, byte, 0, rest, value);
+        put_chunk(buffer, first + whole, 0, rest, value);
     }
-}
-
-fn least(a: usize, b: usize) -> usize
-    ensures { result ≡ min a b }
-{
-    if a < b { a } else { b }
-}
-
-fn power(k: usize) -> u32
-    requires { k ≤ 8 }
-    ensures { result ≡ 2 ^ k }
-{
-    1 << k
-}
-
-fn wide(x: u8) -> u32
-    ensures { result ≡ x }
-{
-    x as u32
 }
 
 // A byte with the number's lowest `take` bits behind its first `from`, and zeros behind them.
@@ -71,10 +50,9 @@ fn joined(byte: u8, from: usize, take: usize, value: u32) -> u8
     requires { from + take ≤ 8 }
     ensures { result ≡ (byte / 2 ^ (8 - from) * 2 ^ take + value % 2 ^ take) * 2 ^ (8 - (from + take)) }
 {
-    let before = wide(byte) >> (8 - from);
-    let room = power(take);
-    let bits = before * room + value % room;
-    (bits * power(8 - (from + take))) as u8
+    let before = u32::from(byte) >> (8 - from);
+    let bits = (before << take) + value % (1 << take);
+    (bits << (8 - (from + take))) as u8
 }
 
 // Bits that lie within one byte are one store.
@@ -83,6 +61,7 @@ fn put_chunk(buffer: &mut [u8], byte: usize, from: usize, take: usize, value: u3
     requires take_bound { from + take ≤ 8 }
     ensures { buffer.new ≡ bits_put buffer.old (8 * byte + from) (field_bits take value) }
 {
+    // not by `get_mut`, whose contract says nothing of what the slice holds afterwards
     if byte < buffer.len() {
         buffer[byte] = joined(buffer[byte], from, take, value);
     }

@@ -11,7 +11,7 @@ use Rattle.table.specs.Table.{Table, transactions, period, modes, tasks, offset,
 use Rattle.table.specs.Number.{before, in_all, number}
 use Rattle.table.specs.Kept.{Kept}
 use Rattle.table.proofs.Number.{number_lt}
-use Rattle.row.specs.Row.{task_cells, row_cells, in_all_cell, transaction_cell, period_cell, modes_cell, first_cell, has_cell, task_cell, offset_cell, jitter_cell, blocking_cell, deadline_cell, priority_cell, owner_cell, times_cell, row_of, table_of, RowOfTable, head_cell, body_cell, time_cell}
+use Rattle.row.specs.Row.{task_cells, row_cells, in_all_cell, transaction_cell, period_cell, modes_cell, first_cell, has_cell, task_cell, offset_cell, jitter_cell, blocking_cell, deadline_cell, priority_cell, owner_cell, row_of, table_of, RowOfTable, head_cell, body_cell, time_cell}
 use Rattle.row.proofs.Readers.{head-cell, body-cell, time-cell}
 use Rattle.row.proofs.Held.{held-period, held-modes, held-tasks, held-offset, held-jitter, held-blocking, held-deadline, held-priority, held-time}
 use Rattle.row.proofs.Rows.{row-size, row-holds, row-in-all, row_first, row-owner}

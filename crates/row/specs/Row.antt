@@ -1,7 +1,7 @@
 -- A table as one flat row of numbers, the layout in which it is lent: a header, five cells for each transaction that there
 -- may be, and fourteen for each task. The last cell of the header and of a transaction is spare. What lies beyond a
 -- table's counts is 0, and so is what is spare.
-use Rattle.std.specs.Prelude.{◌≡◌, List, [], ◌∷◌, ◌++◌, cond, ℕ, ◌+◌, ◌*◌, length, get_or, take, ltb}
+use Rattle.std.specs.Prelude.{◌≡◌, List, [], ◌∷◌, ◌++◌, if◌then◌else◌, ℕ, ◌+◌, ◌*◌, length, get_or, take, ltb}
 use Rattle.table.specs.Sum.{sum}
 use Rattle.table.specs.Lists.{list_of, joined, padded}
 use Rattle.table.specs.Table.{Task, Transaction, Table, transactions, transaction, tasks, task}
@@ -157,11 +157,11 @@ pub record RowOfTable (row : List ℕ) : Type 0 where
 -- What a reader gives: cell i of transaction u, and of the task with number k; 0 where there may be no such one
 
 unfoldable pub head_cell : List ℕ → (u i : ℕ) → ℕ
-head_cell row u i = cond (ltb u transactions_most) (get_or row (transaction_cell u + i) 0) 0
+head_cell row u i = if ltb u transactions_most then get_or row (transaction_cell u + i) 0 else 0
 
 unfoldable pub body_cell : List ℕ → (k i : ℕ) → ℕ
-body_cell row k i = cond (ltb k tasks_in_all) (get_or row (task_cell k + i) 0) 0
+body_cell row k i = if ltb k tasks_in_all then get_or row (task_cell k + i) 0 else 0
 
 -- the time in mode m of the task with number k
 unfoldable pub time_cell : List ℕ → (k m : ℕ) → ℕ
-time_cell row k m = cond (ltb m modes_most) (body_cell row k (times_cell + m)) 0
+time_cell row k m = if ltb m modes_most then body_cell row k (times_cell + m) else 0

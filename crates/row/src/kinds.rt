@@ -53,6 +53,7 @@ impl Table {
     pub const CELLS: usize = Table::TASKS_CELL + Table::TASKS * Task::CELLS;
 
     // The empty table.
+    #[tactic(auto, unfolding(table::specs::Lists::padded))]
     pub fn empty() -> Table
         ensures { result.cells ≡ empty_row }
     {

@@ -1,5 +1,6 @@
 // How a row is read, the table's own or a longer one that begins with it. Each reader has an answer for any row and any
 // number: 0 where there may be no such transaction, task or mode.
+// They take the row, and are no methods of a view that borrows it: their names are promised, and a view would only say each a second time.
 ghost use Rattle.std.specs.Prelude.{◌≡◌, ◌<◌, get_or};
 ghost use Rattle.table.specs.Table.{transactions};
 ghost use Rattle.row.specs.Row.{transaction_cells, task_cells, in_all_cell, period_cell, modes_cell, first_cell, has_cell, offset_cell, jitter_cell, blocking_cell, deadline_cell, priority_cell, owner_cell, table_of, head_cell, body_cell, time_cell};
@@ -11,15 +12,17 @@ impl Table {
     pub fn cell(row: &[u32], at: usize) -> u32
         ensures { result ≡ get_or row.now at 0 }
     {
-        if at < row.len() { row[at] } else { 0 }
+        row.get(at).copied().unwrap_or(0)
     }
 
+    #[tactic(auto, unfolding(crate::specs::Row::table_of))]
     pub fn edition(row: &[u32]) -> u32
         ensures { result ≡ (table_of row.now).edition }
     {
         Table::cell(row, Table::EDITION_CELL)
     }
 
+    #[tactic(auto, unfolding(crate::specs::Row::table_of))]
     pub fn frame(row: &[u32]) -> u32
         ensures { result ≡ (table_of row.now).frame }
     {
@@ -40,6 +43,7 @@ impl Table {
     }
 
     // A cell of transaction u.
+    #[tactic(auto, using(std::proofs::lemmas::Bool::Decides::nat_tests), unfolding(crate::specs::Row::head_cell))]
     fn head_cell(row: &[u32], u: usize, i: usize) -> u32
         requires { i < transaction_cells }
         ensures { result ≡ head_cell row.now u i }
@@ -77,6 +81,7 @@ impl Table {
     }
 
     // A cell of the task with number k.
+    #[tactic(auto, using(std::proofs::lemmas::Bool::Decides::nat_tests), unfolding(crate::specs::Row::body_cell))]
     fn body_cell(row: &[u32], k: usize, i: usize) -> u32
         requires { i < task_cells }
         ensures { result ≡ body_cell row.now k i }
@@ -126,6 +131,7 @@ impl Table {
     }
 
     // The time of the task with number k in mode m.
+    #[tactic(auto, using(std::proofs::lemmas::Bool::Decides::nat_tests), unfolding(crate::specs::Row::time_cell))]
     pub fn time(row: &[u32], k: usize, m: usize) -> u32
         ensures { result ≡ time_cell row.now k m }
     {

@@ -1,19 +1,16 @@
 -- FIPS 180-4, section 6.2.2: the message schedule, the rounds, and the sum of a message.
-use Rattle.std.specs.Prelude.{◌≡◌, ℕ, zero, suc, ◌+◌, ◌-◌, ◌*◌, ◌/◌, Bool, true, false, List, [], ◌∷◌, ◌++◌, length, nat_lt, slice_index, refl}
+use Rattle.std.specs.Prelude.{◌≡◌, ℕ, zero, suc, ◌+◌, ◌-◌, ◌*◌, ◌/◌, List, [], ◌∷◌, ◌++◌, length, nat_lt, slice_index, if◌then◌else◌, refl}
 use Rattle.sha256.specs.declared.State.{State}
 use Rattle.sha256.specs.Words.{◌⊞◌, rotr, Ch, Maj, Σ0, Σ1, σ0, σ1}
 use Rattle.sha256.specs.Constants.{K, H0}
 use Rattle.sha256.specs.Message.{padded, zeros, bytes_of, word_of}
 
-abbrev pub pick : Bool → ℕ → ℕ → ℕ
-pick true x y = x
-pick false x y = y
-
 -- W_t of block i, by the words w before it: M_t for t up to 15, and then σ1 (W_t-2) + W_t-7 + σ0 (W_t-15) + W_t-16
 unfoldable pub next_word : List ℕ → ℕ → List ℕ → ℕ → ℕ
 next_word p i w t =
-    pick (nat_lt t 16) (word_of p (16 * i + t))
-    (σ1 (slice_index w (t - 2)) ⊞ slice_index w (t - 7) ⊞ σ0 (slice_index w (t - 15)) ⊞ slice_index w (t - 16))
+    if nat_lt t 16
+    then word_of p (16 * i + t)
+    else (σ1 (slice_index w (t - 2)) ⊞ slice_index w (t - 7) ⊞ σ0 (slice_index w (t - 15)) ⊞ slice_index w (t - 16))
 
 -- the words before W_t, and W_t
 abbrev pub extended : List ℕ → ℕ → List ℕ → ℕ → List ℕ

@@ -2,11 +2,8 @@
 #![tactic(auto)]
 
 ghost use Rattle.std.specs.Prelude.{◌≡◌, ◌^◌, ◌<◌, length, slice_index};
-ghost use Rattle.sha256.specs.Words as words;
 ghost use Rattle.sha256.specs.Message as message;
 ghost use Rattle.sha256.specs.Sum as sums;
-
-use std::num::wrapping_add_u32;
 
 // The eight words of a hash value, and the working variables, which are as many.
 #[derive(Clone, Copy)]
@@ -21,6 +18,18 @@ struct State {
     h: u32,
 }
 
+// The initial hash value.
+const INITIAL: State = State {
+    a: 0x6a09_e667,
+    b: 0xbb67_ae85,
+    c: 0x3c6e_f372,
+    d: 0xa54f_f53a,
+    e: 0x510e_527f,
+    f: 0x9b05_688c,
+    g: 0x1f83_d9ab,
+    h: 0x5be0_cd19,
+};
+
 // The bytes of a block.
 const BLOCK: usize = 64;
 
@@ -31,87 +40,89 @@ const ROUNDS: usize = 64;
 const OWN: usize = 16;
 
 // The byte behind the message: a bit 1 and seven bits 0.
-const MARK: u32 = 128;
+const MARK: u8 = 128;
 
 // The bytes at the very end that say how many bits the message has.
 const LENGTH: usize = 8;
 
 // The sum of some bytes by FIPS 180-4's SHA-256, eight words, the first most significant.
+#[tactic(auto, unfolding(crate::specs::Constants::H0, crate::specs::Sum::hash, crate::specs::Sum::compressed, crate::specs::Sum::sum_of))]
 pub fn sum(bytes: &[u8]) -> [u32; 8]
     ensures { result ≡ sums.sum_of bytes.now }
 {
     let blocks = padded_len(bytes) / BLOCK;
-    // the initial hash value
-    let mut s = State {
-        a: 0x6a09_e667,
-        b: 0xbb67_ae85,
-        c: 0x3c6e_f372,
-        d: 0xa54f_f53a,
-        e: 0x510e_527f,
-        f: 0x9b05_688c,
-        g: 0x1f83_d9ab,
-        h: 0x5be0_cd19,
-    };
-    let mut i: usize = 0;
-    while i < blocks {
+    let mut s = INITIAL;
+    for i in 0..blocks {
         let w = schedule(bytes, i);
-        s = added(rounds(&w, s), s);
-        i += 1;
+        s = s.rounds(&w).added(s);
     }
     [s.a, s.b, s.c, s.d, s.e, s.f, s.g, s.h]
 }
 
-// The working variables after a block, added to the hash value before it.
-fn added(v: State, s: State) -> State
-    ensures { result ≡ sums.added v s }
-{
-    State {
-        a: wrapping_add_u32(v.a, s.a),
-        b: wrapping_add_u32(v.b, s.b),
-        c: wrapping_add_u32(v.c, s.c),
-        d: wrapping_add_u32(v.d, s.d),
-        e: wrapping_add_u32(v.e, s.e),
-        f: wrapping_add_u32(v.f, s.f),
-        g: wrapping_add_u32(v.g, s.g),
-        h: wrapping_add_u32(v.h, s.h),
+impl State {
+    // The working variables after a block, added to the hash value before it.
+    #[tactic(auto, unfolding(crate::specs::Sum::added))]
+    fn added(self, s: State) -> State
+        ensures { result ≡ sums.added self s }
+    {
+        State {
+            a: self.a.wrapping_add(s.a),
+            b: self.b.wrapping_add(s.b),
+            c: self.c.wrapping_add(s.c),
+            d: self.d.wrapping_add(s.d),
+            e: self.e.wrapping_add(s.e),
+            f: self.f.wrapping_add(s.f),
+            g: self.g.wrapping_add(s.g),
+            h: self.h.wrapping_add(s.h),
+        }
     }
-}
 
-// All the rounds of a block, by its schedule.
-fn rounds(w: &[u32; ROUNDS], from: State) -> State
-    ensures { result ≡ sums.rounds w.now 64 from }
-{
-    let mut s = from;
-    let mut t: usize = 0;
-    while t < ROUNDS {
-        s = round(s, K[t], w[t]);
-        t += 1;
+    // All the rounds of a block, by its schedule.
+    #[tactic(auto, unfolding(crate::specs::Sum::rounds))]
+    fn rounds(self, w: &[u32; ROUNDS]) -> State
+        ensures { result ≡ sums.rounds w.now 64 self }
+    {
+        let mut s = self;
+        for (k, w) in K.iter().zip(w) {
+            s = s.round(*k, *w);
+        }
+        s
     }
-    s
-}
 
-// One round, by its constant and its word.
-fn round(s: State, k: u32, w: u32) -> State
-    ensures { result ≡ sums.round s k w }
-{
-    let s1 = rotr(6, s.e) ^ rotr(11, s.e) ^ rotr(25, s.e);
-    let ch = (s.e & s.f) ^ (!s.e & s.g);
-    let t1 = wrapping_add_u32(
-        wrapping_add_u32(wrapping_add_u32(wrapping_add_u32(s.h, s1), ch), k),
-        w,
-    );
-    let s0 = rotr(2, s.a) ^ rotr(13, s.a) ^ rotr(22, s.a);
-    let maj = (s.a & s.b) ^ (s.a & s.c) ^ (s.b & s.c);
-    let t2 = wrapping_add_u32(s0, maj);
-    State {
-        a: wrapping_add_u32(t1, t2),
-        b: s.a,
-        c: s.b,
-        d: s.c,
-        e: wrapping_add_u32(s.d, t1),
-        f: s.e,
-        g: s.f,
-        h: s.g,
+    // One round, by its constant and its word.
+    fn round(self, k: u32, w: u32) -> State
+        ensures { result ≡ sums.round self k w }
+    {
+        let State {
+            a,
+            b,
+            c,
+            d,
+            e,
+            f,
+            g,
+            h,
+        } = self;
+        let s1 = e.rotate_right(6) ^ e.rotate_right(11) ^ e.rotate_right(25);
+        let ch = (e & f) ^ (!e & g);
+        let t1 = h
+            .wrapping_add(s1)
+            .wrapping_add(ch)
+            .wrapping_add(k)
+            .wrapping_add(w);
+        let s0 = a.rotate_right(2) ^ a.rotate_right(13) ^ a.rotate_right(22);
+        let maj = (a & b) ^ (a & c) ^ (b & c);
+        let t2 = s0.wrapping_add(maj);
+        State {
+            a: t1.wrapping_add(t2),
+            b: a,
+            c: b,
+            d: c,
+            e: d.wrapping_add(t1),
+            f: e,
+            g: f,
+            h: g,
+        }
     }
 }
 
@@ -121,10 +132,8 @@ fn schedule(bytes: &[u8], i: usize) -> [u32; ROUNDS]
     ensures { result ≡ sums.schedule (message.padded bytes.now) i 64 }
 {
     let mut w = [0u32; ROUNDS];
-    let mut t: usize = 0;
-    while t < ROUNDS {
+    for t in 0..ROUNDS {
         w[t] = next_word(bytes, i, &w, t);
-        t += 1;
     }
     w
 }
@@ -139,42 +148,36 @@ fn next_word(bytes: &[u8], i: usize, w: &[u32; ROUNDS], t: usize) -> u32
         return word(bytes, OWN * i + t);
     }
     let x = w[t - 2];
-    let s1 = rotr(17, x) ^ rotr(19, x) ^ (x >> 10);
+    let s1 = x.rotate_right(17) ^ x.rotate_right(19) ^ (x >> 10);
     let y = w[t - 15];
-    let s0 = rotr(7, y) ^ rotr(18, y) ^ (y >> 3);
-    wrapping_add_u32(
-        wrapping_add_u32(wrapping_add_u32(s1, w[t - 7]), s0),
-        w[t - 16],
-    )
-}
-
-// The rotation to the right.
-fn rotr(n: u32, x: u32) -> u32
-    requires n_nonzero { 0 < n }
-    requires n_bound { n < 32 }
-    ensures { result ≡ words.rotr n x }
-{
-    (x >> n) | (x << (32 - n))
+    let s0 = y.rotate_right(7) ^ y.rotate_right(18) ^ (y >> 3);
+    s1.wrapping_add(w[t - 7])
+        .wrapping_add(s0)
+        .wrapping_add(w[t - 16])
 }
 
 // Word j of the padded message.
+#[tactic(auto, unfolding(crate::specs::Message::word_of))]
 fn word(bytes: &[u8], j: usize) -> u32
     requires { j < 2 ^ 62 }
     ensures { result ≡ message.word_of (message.padded bytes.now) j }
 {
     let at = 4 * j;
-    let high = byte(bytes, at) * 256 + byte(bytes, at + 1);
-    (high * 256 + byte(bytes, at + 2)) * 256 + byte(bytes, at + 3)
+    u32::from_be_bytes([
+        byte(bytes, at),
+        byte(bytes, at + 1),
+        byte(bytes, at + 2),
+        byte(bytes, at + 3),
+    ])
 }
 
 // Byte i of the padded message, 0 past its end. The message is not copied to be padded.
-fn byte(bytes: &[u8], i: usize) -> u32
-    ensures is { result ≡ slice_index (message.padded bytes.now) i }
-    ensures small { result < 256 }
+fn byte(bytes: &[u8], i: usize) -> u8
+    ensures { result ≡ slice_index (message.padded bytes.now) i }
 {
     let n = bytes.len();
     if i < n {
-        return bytes[i] as u32;
+        return bytes[i];
     }
     if i == n {
         return MARK;
@@ -188,7 +191,7 @@ fn byte(bytes: &[u8], i: usize) -> u32
         return 0;
     }
     // the shift to the left drops what 64 bits do not hold
-    ((n << 3 >> (8 * behind)) % 256) as u32
+    ((n << 3 >> (8 * behind)) % 256) as u8
 }
 
 // The bytes of the padded message: whole blocks, and the fewest that hold the message, the mark and the length.

@@ -2,9 +2,9 @@
 // is named here, and the cells of a task are counted here; how an answer is found is not known here.
 #![tactic(auto)]
 
-ghost use Rattle.std.specs.Prelude.{◌≡◌, ◌^◌, ◌<◌};
+ghost use Rattle.std.specs.Prelude.{◌≡◌, ◌+◌, ◌^◌, ◌<◌, false, length, IfSome, IsNone};
 ghost use Rattle.analysis.specs.Answer.{cells, unbounded};
-ghost use Rattle.told.specs.Cells.{has_room, listed, stored, are_kept};
+ghost use Rattle.told.specs.Cells.{has_room, listed, cells_in, stored, are_kept};
 ghost use Rattle.told.specs.Code.{code_number, CodeOf};
 ghost use Rattle.told.specs.Answered.{meant, cells_meant};
 ghost use Rattle.told.specs.Told.{filled_case, paired};
@@ -201,6 +201,26 @@ impl TaskCells {
             let at = TaskCells::COUNT * k;
             cells[at..at + TaskCells::COUNT].copy_from_slice(&self.listed());
         }
+    }
+
+    // Those of task number k, where it has its cells there.
+    #[tactic(auto, unfolding(crate::specs::Cells::cells_in, crate::specs::Cells::listed))]
+    pub fn of(cells: &[u32], k: usize) -> Option<TaskCells>
+        ensures some { IfSome result (λ own. cells_in cells.now k ≡ listed (cells_meant own)) }
+        ensures none { IsNone result → has_room (length cells.now) (k + 1) ≡ false }
+    {
+        if cells.len() / TaskCells::COUNT <= k {
+            return None;
+        }
+        let own = &cells[TaskCells::COUNT * k..];
+        Some(TaskCells {
+            code: own[TaskCells::CODE_CELL],
+            bound: own[TaskCells::BOUND_CELL],
+            evaluations: own[TaskCells::EVALUATIONS_CELL],
+            mode: own[TaskCells::MODE_CELL],
+            candidate: own[TaskCells::CANDIDATE_CELL],
+            job: own[TaskCells::JOB_CELL],
+        })
     }
 
     // Whether each of so many tasks has its cells there, and in them the code that says that it keeps its deadline.

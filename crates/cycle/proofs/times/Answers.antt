@@ -1,10 +1,7 @@
--- A part that is not 0 by the quotient. Assumes nothing.
-use mathlib.Core.Path.{sym}
-use Rattle.cycle.proofs.Fit.{times_none, times-some}
+-- The quotient, where there is one. Assumes nothing.
+use mathlib.Core.Path.{◌∙◌}
+use Rattle.cycle.proofs.Fit.{quotient-or-none}
 use Rattle.cycle.proofs.times.Goals as goal
 
-pub returns-then-part-eq0 : goal.returns-then-part-eq0
-returns-then-part-eq0 c = sym (times_none _ _ c.if-part-eq0.true)
-
 pub returns : goal.returns
-returns c = sym (times-some _ _ c.if-part-eq0.false)
+returns c = c.unwrap_or.ensures ∙ quotient-or-none _ _ _ c.checked_div.ensures

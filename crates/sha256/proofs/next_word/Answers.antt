@@ -1,6 +1,6 @@
 -- `sha256::next_word` meets its contract: one of the block's own words, or one by those before it.
 use Rattle.std.proofs.Common.{le-ltb, lt-ltb}
-use Rattle.sha256.specs.Words.{σ0, σ1}
+use Rattle.sha256.specs.Words.{σ0, σ1, rotr}
 use Rattle.sha256.specs.Sum.{next_word}
 use Rattle.sha256.proofs.next_word.Goals as goal
 
@@ -9,15 +9,5 @@ unfolding next_word
 returns-then-t-lt-OWN c = rw (lt-ltb _ _ c.if-t-lt-OWN.true) c.word.ensures
 
 pub returns : goal.returns
-unfolding next_word σ0 σ1
-returns c =
-    rw (
-      le-ltb _ _ c.if-t-lt-OWN.false,
-      c.wrapping_add_u32-3.ensures.value,
-      c.wrapping_add_u32-2.ensures.value,
-      c.wrapping_add_u32.ensures.value,
-      c.rotr-4.ensures,
-      c.rotr-3.ensures,
-      c.rotr-2.ensures,
-      c.rotr.ensures,
-    )
+unfolding next_word σ0 σ1 rotr
+returns c = rw (le-ltb _ _ c.if-t-lt-OWN.false) cc
