@@ -17,9 +17,8 @@ use Rattle.periods.specs.Charge.{imposed}
 use Rattle.analysis.specs.Bound.{Bound}
 use Rattle.analysis.specs.Answer as definition
 use Rattle.analysis.specs.Answer.{Answers, Cells, cells}
-use Rattle.told.specs.declared.Filled.TheVariants as filled
 use Rattle.told.specs.Cells.{listed, code_in}
-use Rattle.told.specs.Told.{Owed, Written, FillsFrom, Fills}
+use Rattle.told.specs.Told.{filled, Owed, Written, FillsFrom, Fills}
 use Rattle.told.specs.Budget.{IsSpent}
 use Rattle.told.proofs.Told.{owed-to}
 use Rattle.told.proofs.Agree.{written_in, written-code}
@@ -29,8 +28,8 @@ use Rattle.jitter.proofs.Number.{number-single, in-all-single}
 use Rattle.jitter.proofs.Alone.{is_task}
 use Rattle.jitter.proofs.Agree.{agree, not-below, never-bounded}
 use Rattle.jitter.proofs.Lasts.{lasts}
-use Rattle.beside.specs.declared.Response.TheVariants as response
-use Rattle.beside.specs.Told.{RespondsFrom, Responds}
+use Rattle.std.specs.Prelude.{Ok}
+use Rattle.beside.specs.Told.{unfit, RespondsFrom, Responds}
 use Rattle.beside.specs.Agree.{bound_in, HasBound, SaysBound}
 
 -- ---- the cells of a task of such a table
@@ -90,17 +89,17 @@ module _ {tab : Table} (keeps : Kept tab) (single : Single tab) {budget : ℕ} {
 -- ---- of an image
 
 -- a task with a response, and one without
-completed : {image : List ℕ} {task R : ℕ} → Responds image task (response.Of R) → (t : ℕ) × Single (table_in image) × Completion (table_in image) task t × (R ≡ response_of (table_in image) task t)
+completed : {image : List ℕ} {task R : ℕ} → Responds image task (Ok R) → (t : ℕ) × Single (table_in image) × Completion (table_in image) task t × (R ≡ response_of (table_in image) task t)
 completed (Responds.single ok l s (RespondsFrom.completes {t = t} c h)) = (t, s, c, refl)
 
-unanswered : {image : List ℕ} {task : ℕ} → Responds image task (response.Unfit NoCompletion) → Single (table_in image) × Never (table_in image) task
+unanswered : {image : List ℕ} {task : ℕ} → Responds image task (unfit NoCompletion) → Single (table_in image) × Never (table_in image) task
 unanswered (Responds.single ok l s (RespondsFrom.never n)) = (s, n)
 
 -- Where the response is within the period, the bound is response plus offset, if the budget lasts
 pub cells_agree :
     {image : List ℕ} {budget task n R : ℕ} {before after : List ℕ}
-    → Fills image budget before after (filled.Done n)
-    → Responds image task (response.Of R)
+    → Fills image budget before after (filled n)
+    → Responds image task (Ok R)
     → task < n
     → R ≤ period (table_in image) task
     → ¬ (IsSpent after task)
@@ -116,8 +115,8 @@ cells_agree {image} {task = task} {after = after} (Fills.accepted ok (FillsFrom.
 -- A budget that has two evaluations for each tick of the period lasts
 pub cells-last :
     {image : List ℕ} {budget task n R : ℕ} {before after : List ℕ}
-    → Fills image budget before after (filled.Done n)
-    → Responds image task (response.Of R)
+    → Fills image budget before after (filled n)
+    → Responds image task (Ok R)
     → task < n
     → R ≤ period (table_in image) task
     → 2 * period (table_in image) task ≤ budget
@@ -133,8 +132,8 @@ cells-last {image} {task = task} {after = after} (Fills.accepted ok (FillsFrom.d
 -- and the programs' budget is such a one for any period
 pub program-agrees :
     {image : List ℕ} {task n R : ℕ} {before after : List ℕ}
-    → Fills image 100_000_000 before after (filled.Done n)
-    → Responds image task (response.Of R)
+    → Fills image 100_000_000 before after (filled n)
+    → Responds image task (Ok R)
     → task < n
     → R ≤ period (table_in image) task
     → SaysBound after task (R + offset (table_in image) task 0) (deadline (table_in image) task 0)
@@ -145,8 +144,8 @@ program-agrees {image} {task} (Fills.accepted ok (FillsFrom.done w)) responds th
 -- No bound is below that
 pub cells-not-below :
     {image : List ℕ} {budget task n R : ℕ} {before after : List ℕ}
-    → Fills image budget before after (filled.Done n)
-    → Responds image task (response.Of R)
+    → Fills image budget before after (filled n)
+    → Responds image task (Ok R)
     → task < n
     → HasBound after task
     → R + offset (table_in image) task 0 ≤ bound_in after task
@@ -158,8 +157,8 @@ cells-not-below {image} (Fills.accepted ok (FillsFrom.done w)) responds there ha
 -- and where there is no response there is no bound
 pub cells-never :
     {image : List ℕ} {budget task n : ℕ} {before after : List ℕ}
-    → Fills image budget before after (filled.Done n)
-    → Responds image task (response.Unfit NoCompletion)
+    → Fills image budget before after (filled n)
+    → Responds image task (unfit NoCompletion)
     → task < n
     → ¬ (HasBound after task)
 cells-never {image} (Fills.accepted ok (FillsFrom.done w)) responds there has =

@@ -11,27 +11,26 @@ use Rattle.told.specs.Told.{paired}
 use Rattle.told.proofs.Told.{place-small}
 use Rattle.told.proofs.Agree.{clash, refused-unique}
 use Rattle.jitter.specs.Plain.{response_of}
-use Rattle.beside.specs.declared.Response.{Response}
-use Rattle.beside.specs.declared.Response.TheVariants as response
-use Rattle.beside.specs.declared.Approximation.{Approximation}
-use Rattle.beside.specs.declared.Approximation.TheVariants as approximation
-use Rattle.beside.specs.Told.{RespondsFrom, Responds, ApproximatesFrom, Approximates, response_number, response_value, TellsResponse, approximation_number, approximation_place, approximation_cell, TellsApproximation}
+use Rattle.std.specs.Prelude.{Result, Ok, Err}
+use Rattle.refusals.specs.declared.Refusal.{Refusal}
+use Rattle.beside.specs.declared.Unanswered.{Unanswered}
+use Rattle.beside.specs.Told.{Response, Approximation, turned_away, unanswered_place, RespondsFrom, Responds, ApproximatesFrom, Approximates, response_number, response_value, TellsResponse, approximation_number, approximation_place, approximation_cell, TellsApproximation}
 
 -- ---- places
 
-abbrev response_place : Response → ℕ
-response_place (response.Of ticks) = 0
-response_place (response.Refused refusal at) = at
-response_place (response.Unfit refusal) = 0
+-- whatever why there is no answer
+abbrev place : {A : Type 0} → Result A Unanswered → ℕ
+place (Ok x) = 0
+place (Err e) = unanswered_place e
 
-pub response-place : {image : List ℕ} {task : ℕ} {x : Response} → Responds image task x → response_place x < 2 ^ 32
+pub response-place : {image : List ℕ} {task : ℕ} {x : Response} → Responds image task x → place x < 2 ^ 32
 response-place {image} (Responds.refused e) = place-small image e
 response-place (Responds.unknown ok l) = omega arith
 response-place (Responds.several ok l n) = omega arith
 response-place (Responds.single ok l s (RespondsFrom.never n)) = omega arith
 response-place (Responds.single ok l s (RespondsFrom.completes c h)) = omega arith
 
-pub approximation-place : {image : List ℕ} {task k t : ℕ} {x : Approximation} → Approximates image task k t x → approximation_place x < 2 ^ 32
+pub approximation-place : {image : List ℕ} {task k t : ℕ} {x : Approximation} → Approximates image task k t x → place x < 2 ^ 32
 approximation-place {image} (Approximates.refused e) = place-small image e
 approximation-place (Approximates.unknown ok l) = omega arith
 approximation-place (Approximates.several ok l n) = omega arith
@@ -45,12 +44,12 @@ responds-from-unique (RespondsFrom.never n) (RespondsFrom.never m) = refl
 responds-from-unique (RespondsFrom.never n) (RespondsFrom.completes c h) = absurd (n _ h c.has)
 responds-from-unique (RespondsFrom.completes c h) (RespondsFrom.never n) = absurd (n _ h c.has)
 responds-from-unique {tab} {u} (RespondsFrom.completes c h) (RespondsFrom.completes d g) =
-    ap (λ (t : ℕ). response.Of (response_of tab u t)) (least-unique c d)
+    ap (λ (t : ℕ). Ok (response_of tab u t)) (least-unique c d)
 
 pub responds-unique : {image : List ℕ} {task : ℕ} {x y : Response} → Responds image task x → Responds image task y → x ≡ y
 responds-unique {image} (Responds.refused e) (Responds.refused f) =
     let (s, t) = refused-unique image e f in
-    ap₂ response.Refused s t
+    ap₂ (λ (r : Refusal) (n : ℕ). turned_away {A = ℕ} r n) s t
 responds-unique {image} (Responds.refused e) (Responds.unknown ok l) = absurd (clash image e ok)
 responds-unique {image} (Responds.refused e) (Responds.several ok l n) = absurd (clash image e ok)
 responds-unique {image} (Responds.refused e) (Responds.single ok l s r) = absurd (clash image e ok)
@@ -80,7 +79,7 @@ approximates-from-unique (ApproximatesFrom.given some low) (ApproximatesFrom.giv
 pub approximates-unique : {image : List ℕ} {task k t : ℕ} {x y : Approximation} → Approximates image task k t x → Approximates image task k t y → x ≡ y
 approximates-unique {image} (Approximates.refused e) (Approximates.refused f) =
     let (s, t) = refused-unique image e f in
-    ap₂ approximation.Refused s t
+    ap₂ (λ (r : Refusal) (n : ℕ). turned_away {A = ℕ} r n) s t
 approximates-unique {image} (Approximates.refused e) (Approximates.unknown ok l) = absurd (clash image e ok)
 approximates-unique {image} (Approximates.refused e) (Approximates.several ok l n) = absurd (clash image e ok)
 approximates-unique {image} (Approximates.refused e) (Approximates.single ok l s r) = absurd (clash image e ok)

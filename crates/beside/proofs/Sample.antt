@@ -18,11 +18,8 @@ use Rattle.jitter.specs.Plain.{Single, Completion}
 use Rattle.jitter.specs.Request.{approximate, approximate_by}
 use Rattle.jitter.specs.Cases.{computing}
 use Rattle.told.proofs.Sample.{image_s, S-accepted, S-table, empty-refused}
-use Rattle.beside.specs.declared.Response.{Response}
-use Rattle.beside.specs.declared.Response.TheVariants as response
-use Rattle.beside.specs.declared.Approximation.{Approximation}
-use Rattle.beside.specs.declared.Approximation.TheVariants as approximation
-use Rattle.beside.specs.Told.{RespondsFrom, Responds, ApproximatesFrom, Approximates}
+use Rattle.std.specs.Prelude.{Ok}
+use Rattle.beside.specs.Told.{unfit, turned_away, Approximation, Response, RespondsFrom, Responds, ApproximatesFrom, Approximates}
 use Rattle.beside.proofs.Answered.{responds-unique, approximates-unique}
 
 -- ---- one task, frame and T 10, C 3
@@ -60,12 +57,12 @@ unfolding reading computing
 last-there = omega arith
 
 -- It responds in 3 ticks, and task 1 is not there
-pub last-responds : {x : Response} → Responds last 0 x → x ≡ response.Of 3
+pub last-responds : {x : Response} → Responds last 0 x → x ≡ Ok 3
 unfolding computing
 last-responds r =
     responds-unique r (Responds.single last-accepted last-there (rw last-table one_single) (rw last-table (RespondsFrom.completes one-completes (omega arith))))
 
-pub last-unknown : {x : Response} → Responds last 1 x → x ≡ response.Refused NoTask 0
+pub last-unknown : {x : Response} → Responds last 1 x → x ≡ turned_away NoTask 0
 unfolding reading computing
 last-unknown r = responds-unique r (Responds.unknown last-accepted (omega arith))
 
@@ -73,14 +70,14 @@ last-unknown r = responds-unique r (Responds.unknown last-accepted (omega arith)
 last-given : (k t : ℕ) {x y : Approximation} → ApproximatesFrom one 0 k t y → Approximates last 0 k t x → x ≡ y
 last-given k t y r = approximates-unique r (Approximates.single last-accepted last-there (rw last-table one_single) (rw last-table y))
 
-pub last-approximates : {x : Approximation} → Approximates last 0 1 1 x → x ≡ approximation.Of 33
+pub last-approximates : {x : Approximation} → Approximates last 0 1 1 x → x ≡ Ok 33
 unfolding computing approximate approximate_by
 last-approximates r = last-given 1 1 (ApproximatesFrom.given (omega arith) (omega arith)) r
 
-pub last-no-k : {x : Approximation} → Approximates last 0 0 1 x → x ≡ approximation.Unfit OutOfRange
+pub last-no-k : {x : Approximation} → Approximates last 0 0 1 x → x ≡ unfit OutOfRange
 last-no-k r = last-given 0 1 (ApproximatesFrom.outside (inl refl)) r
 
-pub last-late : {x : Approximation} → Approximates last 0 1 16_777_216 x → x ≡ approximation.Unfit OutOfRange
+pub last-late : {x : Approximation} → Approximates last 0 1 16_777_216 x → x ≡ unfit OutOfRange
 last-late r = last-given 1 16_777_216 (ApproximatesFrom.outside (inr (omega arith))) r
 
 -- ---- S, and the empty image
@@ -96,16 +93,16 @@ unfolding reading computing
 S-there = omega arith
 
 -- Its transactions have several tasks; that task 3 is not there comes first
-pub S-responds : {x : Response} → Responds image_s 2 x → x ≡ response.Unfit NotSingle
+pub S-responds : {x : Response} → Responds image_s 2 x → x ≡ unfit NotSingle
 S-responds r = responds-unique r (Responds.several S-accepted S-there (rw S-table S-several))
 
-pub S-unknown : {x : Response} → Responds image_s 3 x → x ≡ response.Refused NoTask 0
+pub S-unknown : {x : Response} → Responds image_s 3 x → x ≡ turned_away NoTask 0
 unfolding reading computing
 S-unknown r = responds-unique r (Responds.unknown S-accepted (omega arith))
 
 -- and it comes before k and t are looked at
-pub S-approximates : {x : Approximation} → Approximates image_s 2 0 0 x → x ≡ approximation.Unfit NotSingle
+pub S-approximates : {x : Approximation} → Approximates image_s 2 0 0 x → x ≡ unfit NotSingle
 S-approximates r = approximates-unique r (Approximates.several S-accepted S-there (rw S-table S-several))
 
-pub empty-responds : {x : Response} → Responds [] 0 x → x ≡ response.Refused EndsInside 0
+pub empty-responds : {x : Response} → Responds [] 0 x → x ≡ turned_away EndsInside 0
 empty-responds r = responds-unique r (Responds.refused empty-refused)

@@ -1,4 +1,5 @@
 pub mod Lent
+pub mod Proposition
 pub mod Search
 pub mod Told
 pub mod Agree

@@ -6,17 +6,11 @@ ghost use Rattle.table.specs.Table.{transactions, blocking, time};
 ghost use Rattle.table.specs.Limits.{horizon};
 ghost use Rattle.jitter.specs.Plain.{workload};
 ghost use Rattle.jitter.specs.Start.{Sound, load};
-ghost use Rattle.beside.specs.Lent.{SingleRow, IsRival};
+ghost use Rattle.beside.specs.Lent.{IsRival};
 ghost use Rattle.beside.specs.Search.{IsPass, Finds};
 
-use super::{reads, requests};
+use super::reads::Alone;
 use row::Table;
-
-#[derive(Clone, Copy)]
-pub(crate) enum Found {
-    At(u64),
-    Nothing,
-}
 
 // What a pass over the first rivals finds at t: all that they request, and a line below what they request from t on: in a major frame's time
 // slope·s + jitters + frame·level at s.
@@ -28,132 +22,128 @@ struct Pass {
     level: u64,
 }
 
-// And with a rival: in the line by its load where its next job is less than `span` ahead, else by what it requests at t.
-fn counted(row: &[u32; Table::CELLS], u: usize, t: u64, span: u64, i: usize, seen: Pass) -> Pass
-    requires single_row { SingleRow row.now }
-    requires i_bound { i < transactions (table_of row.now) }
-    requires u_bound { load (table_of row.now) u < (table_of row.now).frame }
-    requires t_le_horizon { t ≤ horizon }
-    requires rival { IsRival (table_of row.now) u i }
-    requires pass { IsPass (table_of row.now) u t i seen }
-    ensures { IsPass (table_of row.now) u t (i + 1) result }
-{
-    let jobs = requests::jobs(row, i, t);
-    let request = requests::time_of(row, i, jobs);
-    let jitter = reads::wide(reads::jitter(row, i));
-    let next = reads::wide(jobs) * reads::wide(reads::period(row, i)) - (t + jitter);
-    if next < span {
-        let load = requests::demand(row, i);
-        return Pass {
-            all: seen.all + request,
-            slope: seen.slope + load,
-            jitters: seen.jitters + jitter * load,
-            level: seen.level,
-        };
-    }
-    Pass {
-        all: seen.all + request,
-        slope: seen.slope,
-        jitters: seen.jitters,
-        level: seen.level + request,
-    }
+// A step of the search: at t, for a task whose rivals leave time in a major frame.
+#[derive(Clone, Copy)]
+struct Step<'a> {
+    task: Alone<'a>,
+    t: u64,
+    // How far ahead of t a rival's next job may be for its load to count, and not what it requests at t.
+    span: u64,
+    ghost room: { load (table_of task.row.now) task.u < (table_of task.row.now).frame },
+    ghost within: { t ≤ horizon },
 }
 
-fn with(row: &[u32; Table::CELLS], u: usize, t: u64, span: u64, i: usize, seen: Pass) -> Pass
-    requires single_row { SingleRow row.now }
-    requires u_bound { u < transactions (table_of row.now) }
-    requires i_bound { i < transactions (table_of row.now) }
-    requires u_bound_2 { load (table_of row.now) u < (table_of row.now).frame }
-    requires t_le_horizon { t ≤ horizon }
-    requires pass { IsPass (table_of row.now) u t i seen }
-    ensures { IsPass (table_of row.now) u t (i + 1) result }
-{
-    let rival = requests::is_rival(row, u, i);
-    if rival {
-        counted(row, u, t, span, i, seen)
-    } else {
+impl Step<'_> {
+    // A pass, and with a rival: in the line by its load where its next job is less than `span` ahead, else by what it requests at t.
+    fn counted(&self, i: usize, seen: Pass) -> Pass
+        requires i_bound { i < transactions (table_of self.now.task.row.now) }
+        requires rival { IsRival (table_of self.now.task.row.now) self.now.task.u i }
+        requires pass { IsPass (table_of self.now.task.row.now) self.now.task.u self.now.t i seen }
+        ensures { IsPass (table_of self.now.task.row.now) self.now.task.u self.now.t (i + 1) result }
+    {
+        let rival = Alone {
+            row: self.task.row,
+            u: i,
+        };
+        let jobs = rival.jobs(self.t);
+        let request = rival.time_of(jobs);
+        let jitter = u64::from(rival.jitter());
+        let next = u64::from(jobs) * u64::from(rival.period()) - (self.t + jitter);
+        let all = seen.all + request;
+        if next < self.span {
+            let load = rival.demand();
+            Pass {
+                all,
+                slope: seen.slope + load,
+                jitters: seen.jitters + jitter * load,
+                ..seen
+            }
+        } else {
+            Pass {
+                all,
+                level: seen.level + request,
+                ..seen
+            }
+        }
+    }
+
+    fn with(&self, i: usize, seen: Pass) -> Pass
+        requires i_bound { i < transactions (table_of self.now.task.row.now) }
+        requires pass { IsPass (table_of self.now.task.row.now) self.now.task.u self.now.t i seen }
+        ensures { IsPass (table_of self.now.task.row.now) self.now.task.u self.now.t (i + 1) result }
+    {
+        if self.task.is_rival(i) {
+            self.counted(i, seen)
+        } else {
+            seen
+        }
+    }
+
+    // Over all rivals.
+    fn over_all(&self) -> Pass
+        ensures { IsPass (table_of self.now.task.row.now) self.now.task.u self.now.t (transactions (table_of self.now.task.row.now)) result }
+    {
+        let mut seen = Pass {
+            all: 0,
+            slope: 0,
+            jitters: 0,
+            level: 0,
+        };
+        for i in 0..self.task.transactions() {
+            seen = self.with(i, seen);
+        }
         seen
     }
-}
 
-// Over all rivals.
-fn over_all(row: &[u32; Table::CELLS], u: usize, t: u64, span: u64) -> Pass
-    requires single_row { SingleRow row.now }
-    requires u_bound { u < transactions (table_of row.now) }
-    requires u_bound_2 { load (table_of row.now) u < (table_of row.now).frame }
-    requires t_le_horizon { t ≤ horizon }
-    ensures { IsPass (table_of row.now) u t (transactions (table_of row.now)) result }
-{
-    let count = reads::transactions(row);
-    let mut seen = Pass {
-        all: 0,
-        slope: 0,
-        jitters: 0,
-        level: 0,
-    };
-    let mut i: usize = 0;
-    while i < count {
-        seen = with(row, u, t, span, i, seen);
-        i += 1;
+    // A sound start beyond t, from its workload on: where B + C and the line meet t, if that is further.
+    fn further(&self, own: u64, value: u64, seen: Pass) -> u64
+        requires sound { Sound (table_of self.now.task.row.now) self.now.task.u self.now.t }
+        requires own_value { own ≡ blocking (table_of self.now.task.row.now) self.now.task.u 0 + time (table_of self.now.task.row.now) self.now.task.u 0 0 }
+        requires value_value { value ≡ workload (table_of self.now.task.row.now) self.now.task.u self.now.t }
+        requires value_le_horizon { value ≤ horizon }
+        requires pass { IsPass (table_of self.now.task.row.now) self.now.task.u self.now.t (transactions (table_of self.now.task.row.now)) seen }
+        ensures sound { Sound (table_of self.now.task.row.now) self.now.task.u result }
+        ensures on { value ≤ result }
+    {
+        let frame = u64::from(self.task.frame());
+        let left = frame - seen.slope;
+        let meet = (frame * (own + seen.level) + seen.jitters + (left - 1)) / left;
+        value.max(meet)
     }
-    seen
-}
-
-// A sound start beyond t, from its workload on: where B + C and the line meet t, if that is further.
-fn further(row: &[u32; Table::CELLS], u: usize, t: u64, own: u64, value: u64, seen: Pass) -> u64
-    requires single_row { SingleRow row.now }
-    requires u_bound { u < transactions (table_of row.now) }
-    requires u_bound_2 { load (table_of row.now) u < (table_of row.now).frame }
-    requires sound_2 { Sound (table_of row.now) u t }
-    requires t_le_horizon { t ≤ horizon }
-    requires own_value { own ≡ blocking (table_of row.now) u 0 + time (table_of row.now) u 0 0 }
-    requires value_value { value ≡ workload (table_of row.now) u t }
-    requires value_le_horizon { value ≤ horizon }
-    requires pass { IsPass (table_of row.now) u t (transactions (table_of row.now)) seen }
-    ensures sound { Sound (table_of row.now) u result }
-    ensures on { value ≤ result }
-{
-    let frame = reads::wide(reads::frame(row));
-    let left = frame - seen.slope;
-    let meet = (frame * (own + seen.level) + seen.jitters + (left - 1)) / left;
-    if value < meet { meet } else { value }
 }
 
 // The search on the way: from 1, each time as far as the last step went.
-fn walk(row: &[u32; Table::CELLS], u: usize) -> Found
-    requires single_row { SingleRow row.now }
-    requires u_bound { u < transactions (table_of row.now) }
-    requires u_bound_2 { load (table_of row.now) u < (table_of row.now).frame }
-    ensures { Finds (table_of row.now) u result }
+fn walk(task: Alone) -> Option<u64>
+    requires { load (table_of task.row.now) task.u < (table_of task.row.now).frame }
+    ensures { Finds (table_of task.entry.row.now) task.entry.u result }
 {
-    let horizon = reads::wide(Table::horizon());
-    let own = requests::own(row, u);
+    let horizon = u64::from(Table::horizon());
+    let own = task.own();
     let mut span = horizon;
     let mut t: u64 = 1;
     while t <= horizon {
-        let seen = over_all(row, u, t, span);
+        let step = Step { task, t, span };
+        let seen = step.over_all();
         let value = own + seen.all;
         if value == t {
-            return Found::At(t);
+            return Some(t);
         }
         if horizon < value {
-            return Found::Nothing;
+            return None;
         }
-        let next = further(row, u, t, own, value, seen);
+        let next = step.further(own, value, seen);
         span = next - t;
         t = next;
     }
-    Found::Nothing
+    None
 }
 
 // Rivals that fill the major frame leave no completion.
-pub(crate) fn search(row: &[u32; Table::CELLS], u: usize) -> Found
-    requires single_row { SingleRow row.now }
-    requires u_bound { u < transactions (table_of row.now) }
-    ensures { Finds (table_of row.now) u result }
+pub(crate) fn search(task: Alone) -> Option<u64>
+    ensures { Finds (table_of task.entry.row.now) task.entry.u result }
 {
-    if reads::wide(reads::frame(row)) <= requests::load(row, u) {
-        return Found::Nothing;
+    if u64::from(task.frame()) <= task.load() {
+        return None;
     }
-    walk(row, u)
+    walk(task)
 }

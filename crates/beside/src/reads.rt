@@ -1,75 +1,70 @@
 // The fields of a row whose table has one task in each transaction: that of transaction i has the number i.
 ghost use Rattle.std.specs.Prelude.{◌≡◌, ◌+◌, ◌<◌, get_or};
 ghost use Rattle.row.specs.Row.{table_of, task_cells, task_cell};
-ghost use Rattle.table.specs.Limits.{transactions_most};
 ghost use Rattle.table.specs.Table.{transactions, period, jitter, blocking, priority, time};
 ghost use Rattle.beside.specs.Lent.{SingleRow};
+ghost use Rattle.beside.specs.Proposition.{SingleRow-prop};
 
 use row::{Table, Task, Transaction};
 
-pub(crate) fn wide(x: u32) -> u64
-    ensures { result ≡ x }
-{
-    x as u64
+// A task of such a row, by its number.
+#[derive(Clone, Copy)]
+pub(crate) struct Alone<'a> {
+    pub(crate) row: &'a [u32; Table::CELLS],
+    pub(crate) u: usize,
+    ghost single_row: { SingleRow row.now } by { SingleRow-prop row.now },
+    ghost owner: { u < transactions (table_of row.now) },
 }
 
-pub(crate) fn frame(row: &[u32; Table::CELLS]) -> u32
-    ensures { result ≡ (table_of row.now).frame }
-{
-    Table::frame(row)
-}
+impl Alone<'_> {
+    pub(crate) fn frame(&self) -> u32
+        ensures { result ≡ (table_of self.now.row.now).frame }
+    {
+        let row = self.row;
+        Table::frame(row)
+    }
 
-pub(crate) fn transactions(row: &[u32; Table::CELLS]) -> usize
-    ensures { result ≡ transactions (table_of row.now) }
-{
-    Table::transactions(row) as usize
-}
+    pub(crate) fn transactions(&self) -> usize
+        ensures { result ≡ transactions (table_of self.now.row.now) }
+    {
+        let row = self.row;
+        Table::transactions(row) as usize
+    }
 
-pub(crate) fn period(row: &[u32; Table::CELLS], i: usize) -> u32
-    requires single_row { SingleRow row.now }
-    requires i_bound { i < transactions (table_of row.now) }
-    ensures { result ≡ period (table_of row.now) i }
-{
-    row[Table::HEADER_CELLS + i * Transaction::CELLS + Transaction::PERIOD_CELL]
-}
+    pub(crate) fn period(&self) -> u32
+        ensures { result ≡ period (table_of self.now.row.now) self.now.u }
+    {
+        self.row[Table::HEADER_CELLS + self.u * Transaction::CELLS + Transaction::PERIOD_CELL]
+    }
 
-// A cell of the task of transaction i.
-fn cell(row: &[u32; Table::CELLS], i: usize, at: usize) -> u32
-    requires i_lt_transactions_most { i < transactions_most }
-    requires at_lt_task_cells { at < task_cells }
-    ensures { result ≡ get_or row.now (task_cell i + at) 0 }
-{
-    row[Table::TASKS_CELL + i * Task::CELLS + at]
-}
+    fn cell(&self, at: usize) -> u32
+        requires { at < task_cells }
+        ensures { result ≡ get_or self.now.row.now (task_cell self.now.u + at) 0 }
+    {
+        self.row[Table::TASKS_CELL + self.u * Task::CELLS + at]
+    }
 
-pub(crate) fn jitter(row: &[u32; Table::CELLS], i: usize) -> u32
-    requires single_row { SingleRow row.now }
-    requires i_bound { i < transactions (table_of row.now) }
-    ensures { result ≡ jitter (table_of row.now) i 0 }
-{
-    cell(row, i, Task::JITTER_CELL)
-}
+    pub(crate) fn jitter(&self) -> u32
+        ensures { result ≡ jitter (table_of self.now.row.now) self.now.u 0 }
+    {
+        self.cell(Task::JITTER_CELL)
+    }
 
-pub(crate) fn blocking(row: &[u32; Table::CELLS], i: usize) -> u32
-    requires single_row { SingleRow row.now }
-    requires i_bound { i < transactions (table_of row.now) }
-    ensures { result ≡ blocking (table_of row.now) i 0 }
-{
-    cell(row, i, Task::BLOCKING_CELL)
-}
+    pub(crate) fn blocking(&self) -> u32
+        ensures { result ≡ blocking (table_of self.now.row.now) self.now.u 0 }
+    {
+        self.cell(Task::BLOCKING_CELL)
+    }
 
-pub(crate) fn priority(row: &[u32; Table::CELLS], i: usize) -> u32
-    requires single_row { SingleRow row.now }
-    requires i_bound { i < transactions (table_of row.now) }
-    ensures { result ≡ priority (table_of row.now) i 0 }
-{
-    cell(row, i, Task::PRIORITY_CELL)
-}
+    pub(crate) fn priority(&self) -> u32
+        ensures { result ≡ priority (table_of self.now.row.now) self.now.u 0 }
+    {
+        self.cell(Task::PRIORITY_CELL)
+    }
 
-pub(crate) fn time(row: &[u32; Table::CELLS], i: usize) -> u32
-    requires single_row { SingleRow row.now }
-    requires i_bound { i < transactions (table_of row.now) }
-    ensures { result ≡ time (table_of row.now) i 0 0 }
-{
-    cell(row, i, Task::TIMES_CELL)
+    pub(crate) fn time(&self) -> u32
+        ensures { result ≡ time (table_of self.now.row.now) self.now.u 0 0 }
+    {
+        self.cell(Task::TIMES_CELL)
+    }
 }

@@ -1,5 +1,4 @@
-use mathlib.Core.Path.{◌≡◌}
-use Prim.Native.Nat.{ℕ, ◌-◌, ◌≤◌, ◌<◌}
+use Rattle.std.proofs.Common.{◌≡◌, ℕ, ◌<◌}
 use Rattle.row.specs.Row.{table_of}
 use Rattle.table.specs.Table.{Table, tasks, modes}
 use Rattle.beside.proofs.is_single.Given as goal
@@ -8,7 +7,4 @@ abbrev pub OneEach : Table → ℕ → Type 0
 OneEach tab j = (tasks tab j ≡ 1) × (modes tab j ≡ 1)
 
 abbrev pub invariant-loop-i : goal.invariant-loop-i
-invariant-loop-i l = (l.i ≤ l.count) × ((j : ℕ) → j < l.i → OneEach (table_of l.row) j)
-
-abbrev pub decreases-loop-i : goal.decreases-loop-i
-decreases-loop-i l = l.count - l.i
+invariant-loop-i l = (j : ℕ) → j < l.i → OneEach (table_of l.row) j

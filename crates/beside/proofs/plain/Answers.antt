@@ -1,39 +1,19 @@
 -- By the way in which the image was opened.
-use mathlib.Core.Path.{subst}
+use Rattle.std.proofs.Common.{ℕ, Err}
+use Rattle.std.proofs.lemmas.Result.{err_from_is_err_and}
 use Rattle.table.specs.Table.{Table}
-use Rattle.beside.specs.declared.Response.TheVariants as response
-use Rattle.beside.specs.Told.{Opens, RespondsFrom, Responds}
-use Rattle.beside.proofs.Ways.{opened-refused, opened-several, Ready, ready-owner, ready-shape, opened-row}
+use Rattle.beside.specs.declared.Unanswered.{Unanswered}
+use Rattle.beside.specs.Told.{RespondsFrom, Responds}
+use Rattle.beside.proofs.Ways.{opened-none, opened-task}
 use Rattle.beside.proofs.plain.Goals as goal
 
--- the row that was read
-ready-after-row-in-row-1 : (c : goal.After-row-in-Row-1) → Ready c.args.image.now c.«open».new.row c.args.task
-ready-after-row-in-row-1 c = opened-row (subst (Opens _ _ _) c.in-Row.is c.«open».ensures)
+pub returns-in_err-task : goal.returns-in_err-task
+returns-in_err-task c =
+    let p = err_from_is_err_and c.from_residual.result c.from_residual.ensures.1 in
+    rw (p.1, p.2)
+    (opened-none (λ (e : Unanswered). Responds c.args.image.now c.args.task (Err e)) (λ x n e. Responds.refused e) Responds.unknown Responds.several c.in_err-task.ensures)
 
-pub response_of-requires : goal.response_of-requires
-response_of-requires c =
-    let r = ready-after-row-in-row-1 c in record { single_row = r.single; u_bound = ready-owner r }
-
-pub returns-in-Refused : goal.returns-in-Refused
-returns-in-Refused c =
-    let r = c in
-    let o = r in
-    let a = o.args in
-    opened-refused (λ x at. Responds a.image.now a.task (response.Refused x at)) (λ x n e. Responds.refused e) Responds.unknown
-    (subst (Opens _ _ _) r.in-Refused.is o.«open».ensures)
-
-pub returns-in-NotSingle : goal.returns-in-NotSingle
-returns-in-NotSingle c =
-    let (ok, there, many) = opened-several (subst (Opens _ _ _) c.in-NotSingle.is c.«open».ensures) in
-    Responds.several ok there many
-
--- the row that was read
-ready-after-response_of : (c : goal.After-response_of) → Ready c.args.image.now c.«open».new.row c.args.task
-ready-after-response_of c = opened-row (subst (Opens _ _ _) c.in-Row.is c.«open».ensures)
-
-pub returns-in-Row : goal.returns-in-Row
-returns-in-Row c =
-    let x = c in
-    let a = x.args in
-    let r = ready-after-response_of x in
-    Responds.single r.ok r.there (ready-shape r) (subst (λ (tab : Table). RespondsFrom tab a.task c.response_of.result) r.table c.response_of.ensures)
+pub returns : goal.returns
+returns c =
+    let (ok, there, single, said) = opened-task (λ (tab : Table) (u : ℕ). RespondsFrom tab u c.response_of.result) c.in_ok-task.ensures c.response_of.ensures in
+    Responds.single ok there single said

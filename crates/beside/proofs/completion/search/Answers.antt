@@ -1,17 +1,11 @@
 -- A full load has no completion, and any other is searched.
-use native.Mathlib.Omega.{arith}
+use Rattle.std.proofs.Common.{arith}
 use Rattle.jitter.proofs.Line.{full-never}
 use Rattle.beside.specs.Search.{Finds}
 use Rattle.beside.proofs.completion.search.Goals as goal
 
-pub returns-then-wide-load : goal.returns-then-wide-load
-returns-then-wide-load c =
-    let w = c in
-    Finds.nothing (full-never w.requires.single_row.table.kept w.requires.single_row.single w.requires.u_bound (omega (arith, c.if-wide-load.true, w.wide.ensures, w.frame.ensures, c.load.ensures)))
-
-pub walk-requires : goal.walk-requires
-walk-requires c =
-    let w = c in record { single_row = w.requires.single_row; u_bound = w.requires.u_bound; u_bound_2 = omega (arith, c.if-wide-load.false, w.wide.ensures, w.frame.ensures, c.load.ensures) }
-
-pub returns : goal.returns
-returns c = c.walk.ensures
+pub returns-then-from-load : goal.returns-then-from-load
+returns-then-from-load c =
+    let x = c.args.task in
+    let r = x.single_row in
+    Finds.nothing (full-never r.table.kept r.single x.owner (omega (arith, c.if-from-load.true, c.from.ensures, c.frame.ensures, c.load.ensures)))
