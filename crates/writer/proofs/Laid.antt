@@ -26,7 +26,7 @@ use Rattle.round.proofs.Places.{length-task, length_front}
 use Rattle.round.proofs.Row.{row-timed}
 use Rattle.row.proofs.Readers.{head-cell}
 use Rattle.row.proofs.Held.{transaction-there, held-before}
-use Rattle.writer.specs.Parts.{header_bits, head_bits, front_bits, back_bits}
+use Rattle.writer.specs.Parts.{header_bits, head_bits, front_bits, back_bits, time_bits, task_bits_from}
 use Rattle.writer.proofs.Scanned.{modes-there, tasks-there}
 use Rattle.row.specs.Row.{transaction_cell, modes_cell, has_cell, task_cell, times_cell, task_of, tasks_before, transaction_of, table_of, head_cell}
 
@@ -59,9 +59,6 @@ three-laid bytes at u v w x y z = sym (simp (put-append, length-append, length-f
 -- ---- the times of a task, a task, and the tasks of a transaction
 
 module _ (row : List ℕ) where
-  abbrev pub time_bits : (k m : ℕ) → List ℕ
-  time_bits k m = field_bits time_width (get_or row (task_cell k + (times_cell + m)) 0)
-
   length-first : (k : ℕ) → length (front_bits row k) ≡ 72
   unfolding front_bits
   length-first k = simp (length-append, length-field)
@@ -72,11 +69,11 @@ module _ (row : List ℕ) where
 
   pub task-laid :
       (bytes : List ℕ) (at many k : ℕ)
-      → bits_put (bits_put (bits_put bytes at (front_bits row k)) (at + 72) (back_bits row k)) (at + 106) (joined many (time_bits k))
+      → bits_put (bits_put (bits_put bytes at (front_bits row k)) (at + 72) (back_bits row k)) (at + 106) (joined many (time_bits row k))
       ≡ bits_put bytes at (task_bits (task_of row many k))
   unfolding task_bits task_of front_bits back_bits
   task-laid bytes at many k =
-      let times = joined many (time_bits k) in
+      let times = joined many (time_bits row k) in
       ap (λ (b : List ℕ). bits_put b (at + 106) times) (behind bytes at 72 (front_bits row k) (back_bits row k) (length-first k))
       ∙ behind bytes at 106 (front_bits row k ++ back_bits row k) times (rw (length-append (front_bits row k), length-first k, length_back k))
       ∙ rw (listed-joined many (λ m. get_or row (task_cell k + (times_cell + m)) 0) 0 (field_bits time_width))
@@ -86,10 +83,7 @@ module _ (row : List ℕ) where
   unfolding task_of
   length-task-of modes k = length-task (task_of row modes k) ∙ ap task_width (length-list_of modes _)
 
-  abbrev pub task_bits_from : (modes first j : ℕ) → List ℕ
-  task_bits_from modes first j = task_bits (task_of row modes (first + j))
-
-  pub length-tasks : (modes first j : ℕ) → length (joined j (task_bits_from modes first)) ≡ j * task_width modes
+  pub length-tasks : (modes first j : ℕ) → length (joined j (task_bits_from row modes first)) ≡ j * task_width modes
   length-tasks modes first j = length-joined j (task_width modes) _ (λ i h. length-task-of modes (first + i))
 
   -- ---- a transaction
@@ -98,7 +92,7 @@ module _ (row : List ℕ) where
       (bytes : List ℕ) (at u first : ℕ)
       → first ≡ tasks_before row u
       → bits_put (bits_put bytes at (head_bits row u)) (at + 33)
-      (joined (get_or row (transaction_cell u + has_cell) 0) (task_bits_from (get_or row (transaction_cell u + modes_cell) 0) first))
+      (joined (get_or row (transaction_cell u + has_cell) 0) (task_bits_from row (get_or row (transaction_cell u + modes_cell) 0) first))
       ≡ bits_put bytes at (transaction_bits (transaction_of row u))
   unfolding transaction_bits transaction_of head_bits
   transaction-laid bytes at u first is =

@@ -20,9 +20,7 @@ use Rattle.table.specs.Rules.Deadlines.{keepable}
 use Rattle.table.specs.Sum.{greatest}
 use Rattle.table.proofs.Sum.{sum-ext, sum-next, greatest-ext, greatest-sum}
 use Rattle.table.proofs.Rules as rules
-use Rattle.refusals.specs.declared.Answer.{Answer}
-use Rattle.refusals.specs.declared.Answer.TheVariants.{Accepted}
-use Rattle.refusals.specs.Answer.{◌then◌, first_of}
+use Rattle.refusals.specs.Answer.{Answer, accepted, ◌then◌, first_of}
 use Rattle.refusals.proofs.Findings.{then-joins, holds, then_same, first-same}
 use Rattle.row.specs.Row.{task_cell, period_cell, modes_cell, has_cell, offset_cell, jitter_cell, blocking_cell, deadline_cell, priority_cell, table_of, head_cell, body_cell, time_cell}
 use Rattle.row.proofs.Readers.{head-cell, body-cell, time-cell}
@@ -70,7 +68,7 @@ pub no-fault :
     → ((f : TaskField) → IsTaskField m f → task_number row k f < 2 ^ width_in_task f)
     → 1 ≤ greatest m (λ i. time_cell row k i)
     → task_number row k TaskField.offset + greatest m (λ i. time_cell row k i) ≤ task_number row k TaskField.deadline
-    → (q : ℕ) → task_fault row m k q ≡ Accepted
+    → (q : ℕ) → task_fault row m k q ≡ accepted
 no-fault row m k small runs room q =
     rules.clear-task keepable then-joins m (task_look row k q)
     record {
@@ -118,7 +116,7 @@ pub record Small (row : List ℕ) (u before : ℕ) : Type 0 where
   pub tasks : head_cell row u has_cell ≤ tasks_most
   pub in_all : before + head_cell row u has_cell ≤ tasks_in_all
 
-pub small : (row : List ℕ) (u before p : ℕ) → head_fault row u before p ≡ Accepted → Small row u before
+pub small : (row : List ℕ) (u before p : ℕ) → head_fault row u before p ≡ accepted → Small row u before
 small row u before p clear =
     let s = rules.sound-head limits then-joins (table_of row).frame before (head_look row u p) clear in
     record { modes = s.few_modes; tasks = s.few_tasks; in_all = s.in_all }
@@ -148,7 +146,7 @@ module _ (row : List ℕ) where
   unfolding transaction_rules first_of
   transaction-parts u before p = refl
 
-  pub few-transactions : header_fault row ≡ Accepted → transactions tab ≤ transactions_most
+  pub few-transactions : header_fault row ≡ accepted → transactions tab ≤ transactions_most
   unfolding number_in
   few-transactions clear = (rules.sound-header limits then-joins (part Field.header (table_look tab)) clear).few
 

@@ -8,9 +8,8 @@ use Rattle.table.specs.Sample.{plain, lone}
 use Rattle.table.specs.Computing.{computing}
 use Rattle.format.specs.Image.{task_bits, transaction_bits, table_bits, number_of, bytes_of, image_of}
 use Rattle.format.specs.Write.{start_of, table_fault, write_fault}
-use Rattle.writer.specs.declared.Writing.{Writing}
-use Rattle.writer.specs.declared.Writing.TheVariants.{Written, Refused}
-use Rattle.writer.specs.Write.{answered, holding}
+use Rattle.refusals.specs.Answer.{refused}
+use Rattle.writer.specs.Write.{Writing, written, answered, holding}
 
 -- n bytes of 0xFF
 abbrev full : ℕ → List ℕ
@@ -26,14 +25,14 @@ left D n = holding (write_fault (lone 10 (plain 0 3 5 D)) n) (image_of (lone 10 
 
 answers :
     map (told 10) (27 ∷ 25 ∷ 24 ∷ []) ++ map (told 0) (25 ∷ 0 ∷ []) ++ map (told 2) (25 ∷ 0 ∷ []) ++ map (told 3) (25 ∷ [])
-    ≡ Written 25
-    ∷ Written 25
-    ∷ Refused BufferShort 0
-    ∷ Refused DeadlineZero 139
-    ∷ Refused DeadlineZero 139
-    ∷ Refused DeadlineShort 139
-    ∷ Refused DeadlineShort 139
-    ∷ Written 25
+    ≡ written 25
+    ∷ written 25
+    ∷ refused BufferShort 0
+    ∷ refused DeadlineZero 139
+    ∷ refused DeadlineZero 139
+    ∷ refused DeadlineShort 139
+    ∷ refused DeadlineShort 139
+    ∷ written 25
     ∷ []
 unfolding computing start_of table_fault write_fault image_of table_bits transaction_bits task_bits field_bits bytes_of number_of joined
 answers = refl

@@ -1,9 +1,8 @@
 -- What the scan of a row looks at in turn: the rules of each part of the table, its numbers as the row's readers give them, its
 -- place as it is counted up on the way.
 use Rattle.std.specs.Prelude.{List, ℕ, ◌+◌, ◌^◌, ltb}
-use Rattle.refusals.specs.declared.Answer.{Answer}
 use Rattle.refusals.specs.declared.Refusal.TheVariants.{TooLarge}
-use Rattle.refusals.specs.Answer.{◌then◌, checked}
+use Rattle.refusals.specs.Answer.{Answer, ◌then◌, checked}
 use Rattle.table.specs.Limits.{limits}
 use Rattle.table.specs.Fields.{HeadField, TaskField, Field, width_in_head, width_in_task}
 use Rattle.table.specs.Fields.HeadField.{period, modes, tasks}

@@ -1,33 +1,36 @@
 -- What writing gives: the answer, and what the lent buffer then holds.
-use Rattle.std.specs.Prelude.{◌≡◌, List, ◌++◌, ℕ, length, drop}
+use Rattle.std.specs.Prelude.{◌≡◌, List, ◌++◌, ℕ, length, drop, Result, Ok, Err}
 use Rattle.table.specs.Table.{Table}
-use Rattle.refusals.specs.declared.Answer.{Answer}
-use Rattle.refusals.specs.declared.Answer.TheVariants as answer
-use Rattle.refusals.specs.Answer.{refusal_number}
+use Rattle.refusals.specs.declared.Fault.{Fault}
+use Rattle.refusals.specs.Answer.{Answer, number_of, place_of}
 use Rattle.format.specs.Image.{image_of}
 use Rattle.format.specs.Write.{write_fault}
-use Rattle.writer.specs.declared.Writing.{Writing}
-use Rattle.writer.specs.declared.Writing.TheVariants.{Written, Refused}
+use Rattle.writer.specs.declared.Written.{Written}
+
+-- an image of so many bytes, or a refusal
+abbrev pub Writing : Type 0
+Writing = Result Written Fault
+
+abbrev pub written : ℕ → Writing
+written bytes = Ok (record { bytes = bytes })
 
 -- the number and the place of each answer; where the table is written, 0 and the image's length
 
 abbrev pub writing_number : Writing → ℕ
-writing_number (Written bytes) = 0
-writing_number (Refused refusal at) = refusal_number refusal
+writing_number r = number_of r
 
 abbrev pub writing_place : Writing → ℕ
-writing_place (Written bytes) = bytes
-writing_place (Refused refusal at) = at
+writing_place r = place_of (λ (w : Written). w.bytes) r
 
 -- with no finding the image is written; its bytes come first in the buffer, and those beyond it stay
 
 abbrev pub answered : Answer → (image : List ℕ) → Writing
-answered answer.Accepted image = Written (length image)
-answered (answer.Refused refusal at) image = Refused refusal at
+answered (Ok x) image = written (length image)
+answered (Err f) image = Err f
 
 abbrev pub holding : Answer → (image before : List ℕ) → List ℕ
-holding answer.Accepted image before = image ++ drop (length image) before
-holding (answer.Refused refusal at) image before = before
+holding (Ok x) image before = image ++ drop (length image) before
+holding (Err f) image before = before
 
 -- Writes tab before after r: that table was to be written into a buffer that held `before`; it holds `after`, and r is the answer
 pub record Writes (tab : Table) (before after : List ℕ) (r : Writing) : Type 0 where

@@ -1,50 +1,43 @@
 // The bits of a table put into a buffer, field by field from front to back. The row is one whose table no rule refuses, so every
 // count is small; that there is room is not asked here, what lies past the end of the buffer is lost.
-ghost use Rattle.std.specs.Prelude.{◌≡◌, ◌+◌, ◌^◌, ◌<◌, ◌≤◌, get_or};
-ghost use Rattle.bits.specs.Bits.{field_bits};
+ghost use Rattle.std.specs.Prelude.{◌≡◌, ◌^◌, ◌<◌};
 ghost use Rattle.bits.specs.Put.{bits_put};
-ghost use Rattle.table.specs.Limits.{time_width, transactions_most, modes_most, tasks_most, tasks_in_all};
+ghost use Rattle.table.specs.Limits.{transactions_most};
 ghost use Rattle.table.specs.Lists.{joined};
 ghost use Rattle.table.specs.Table.{transactions};
 ghost use Rattle.table.specs.Kept.{Kept};
-ghost use Rattle.format.specs.Places.{first_at, bytes_to};
+ghost use Rattle.format.specs.Places.{first_at, deadline_at, times_at, bytes_to};
 ghost use Rattle.format.specs.Image.{task_bits, transaction_bits, table_bits};
 ghost use Rattle.format.specs.Write.{start_of};
-ghost use Rattle.row.specs.Row.{modes_cell, has_cell, task_cell, times_cell, task_of, tasks_before, transaction_of, table_of, head_cell};
-ghost use Rattle.writer.specs.Parts.{header_bits, head_bits, front_bits, back_bits};
+ghost use Rattle.row.specs.Row.{task_of, transaction_of, table_of};
+ghost use Rattle.writer.specs.Parts.{header_bits, head_bits, front_bits, back_bits, time_bits, task_bits_from};
 
-use super::scan::end_of;
+use super::parts::{TaskAt, Tasks};
 use put::put;
 use row::{Table, Task, Transaction};
 
-// The times of the task with number k in its first modes.
-fn lay_times(row: &[u32], k: usize, modes: usize, buffer: &mut [u8], at: usize)
-    requires k_lt_tasks_in_all { k < tasks_in_all }
-    requires modes_le_modes_most { modes ≤ modes_most }
-    requires at_bound { at < 2 ^ 33 }
-    ensures { buffer.new ≡ bits_put buffer.old at (joined modes (λ m. field_bits time_width (get_or row.now (task_cell k + (times_cell + m)) 0))) }
+// The times of a task.
+fn lay_times(task: TaskAt, buffer: &mut [u8])
+    ensures { buffer.new ≡ bits_put buffer.old (times_at task.entry.at) (joined task.entry.modes (time_bits task.entry.row.now task.entry.number)) }
 {
-    let mut m: usize = 0;
-    while m < modes {
-        put(
-            buffer,
-            at + m * Task::TIME_WIDTH,
-            Task::TIME_WIDTH,
-            Table::time(row, k, m),
-        );
-        m += 1;
+    for m in 0..task.modes {
+        put(buffer, task.time_at(m), Task::TIME_WIDTH, task.time(m));
     }
 }
 
-// The offset, jitter and blocking of the task with number k.
-fn lay_front(row: &[u32], k: usize, buffer: &mut [u8], at: usize)
-    requires k_lt_tasks_in_all { k < tasks_in_all }
-    requires at_bound { at < 2 ^ 32 }
-    ensures { buffer.new ≡ bits_put buffer.old at (front_bits row.now k) }
+// Its offset, jitter and blocking.
+fn lay_front(task: TaskAt, buffer: &mut [u8])
+    ensures { buffer.new ≡ bits_put buffer.old task.entry.at (front_bits task.entry.row.now task.entry.number) }
 {
-    let offset = Table::offset(row, k);
-    let jitter = Table::jitter(row, k);
-    let blocking = Table::blocking(row, k);
+    let TaskAt {
+        row,
+        number,
+        at,
+        ..
+    } = task;
+    let offset = Table::offset(row, number);
+    let jitter = Table::jitter(row, number);
+    let blocking = Table::blocking(row, number);
     put(buffer, at, Task::OFFSET_WIDTH, offset);
     put(buffer, at + Task::JITTER_AT, Task::JITTER_WIDTH, jitter);
     put(
@@ -56,45 +49,42 @@ fn lay_front(row: &[u32], k: usize, buffer: &mut [u8], at: usize)
 }
 
 // Its deadline and priority.
-fn lay_back(row: &[u32], k: usize, buffer: &mut [u8], at: usize)
-    requires k_lt_tasks_in_all { k < tasks_in_all }
-    requires at_bound { at < 2 ^ 33 }
-    ensures { buffer.new ≡ bits_put buffer.old at (back_bits row.now k) }
+fn lay_back(task: TaskAt, buffer: &mut [u8])
+    ensures { buffer.new ≡ bits_put buffer.old (deadline_at task.entry.at) (back_bits task.entry.row.now task.entry.number) }
 {
-    put(buffer, at, Task::DEADLINE_WIDTH, Table::deadline(row, k));
+    let TaskAt {
+        row,
+        number,
+        at,
+        ..
+    } = task;
     put(
         buffer,
-        at + Task::DEADLINE_WIDTH,
+        at + Task::DEADLINE_AT,
+        Task::DEADLINE_WIDTH,
+        Table::deadline(row, number),
+    );
+    put(
+        buffer,
+        at + Task::PRIORITY_AT,
         Task::PRIORITY_WIDTH,
-        Table::priority(row, k),
+        Table::priority(row, number),
     );
 }
 
-// The task with number k, of so many modes.
-fn lay_task(row: &[u32], k: usize, modes: usize, buffer: &mut [u8], at: usize)
-    requires k_lt_tasks_in_all { k < tasks_in_all }
-    requires modes_le_modes_most { modes ≤ modes_most }
-    requires at_bound { at < 2 ^ 32 }
-    ensures { buffer.new ≡ bits_put buffer.old at (task_bits (task_of row.now modes k)) }
+fn lay_task(task: TaskAt, buffer: &mut [u8])
+    ensures { buffer.new ≡ bits_put buffer.old task.entry.at (task_bits (task_of task.entry.row.now task.entry.modes task.entry.number)) }
 {
-    lay_front(row, k, buffer, at);
-    lay_back(row, k, buffer, at + Task::DEADLINE_AT);
-    lay_times(row, k, modes, buffer, at + Task::TIMES_AT);
+    lay_front(task, buffer);
+    lay_back(task, buffer);
+    lay_times(task, buffer);
 }
 
-// So many tasks from the one with number `first` on, of so many modes each.
-fn lay_tasks(row: &[u32], first: usize, count: usize, modes: usize, buffer: &mut [u8], at: usize)
-    requires count_le_tasks_most { count ≤ tasks_most }
-    requires count_bound { first + count ≤ tasks_in_all }
-    requires modes_le_modes_most { modes ≤ modes_most }
-    requires at_bound { at < 2 ^ 31 }
-    ensures { buffer.new ≡ bits_put buffer.old at (joined count (λ j. task_bits (task_of row.now modes (first + j)))) }
+fn lay_tasks(tasks: Tasks, buffer: &mut [u8])
+    ensures { buffer.new ≡ bits_put buffer.old tasks.entry.at (joined tasks.entry.count (task_bits_from tasks.entry.row.now tasks.entry.modes tasks.entry.first)) }
 {
-    let size = Task::TIMES_AT + modes * Task::TIME_WIDTH;
-    let mut j: usize = 0;
-    while j < count {
-        lay_task(row, first + j, modes, buffer, at + j * size);
-        j += 1;
+    for j in 0..tasks.count {
+        lay_task(tasks.task(j), buffer);
     }
 }
 
@@ -119,33 +109,18 @@ fn lay_head(row: &[u32], u: usize, buffer: &mut [u8], at: usize)
     );
 }
 
-// Transaction u, whose first task has the number `first`.
-fn lay_transaction(row: &[u32], u: usize, first: usize, buffer: &mut [u8], at: usize)
-    requires u_lt_transactions_most { u < transactions_most }
-    requires first_value { first ≡ tasks_before row.now u }
-    requires has_cell_bound { head_cell row.now u has_cell ≤ tasks_most }
-    requires has_cell_bound_2 { first + head_cell row.now u has_cell ≤ tasks_in_all }
-    requires modes_cell_bound { head_cell row.now u modes_cell ≤ modes_most }
-    requires at_bound { at < 2 ^ 30 }
-    ensures { buffer.new ≡ bits_put buffer.old at (transaction_bits (transaction_of row.now u)) }
-{
-    let modes = Table::modes(row, u) as usize;
-    let tasks = Table::tasks(row, u) as usize;
-    lay_head(row, u, buffer, at);
-    lay_tasks(row, first, tasks, modes, buffer, at + Transaction::WIDTH);
-}
-
 // How many bytes the image has.
 pub(crate) fn size(row: &[u32]) -> usize
     requires { Kept (table_of row.now) }
     ensures { result ≡ bytes_to (start_of (table_of row.now) (transactions (table_of row.now))) }
 {
-    let count = Table::transactions(row) as usize;
+    let count = Table::transactions(row);
+    let mut first: usize = 0;
     let mut at = Table::FIRST_AT;
-    let mut u: usize = 0;
-    while u < count {
-        at = end_of(row, u, at);
-        u += 1;
+    for u in 0..count as usize {
+        let tasks = Tasks::of(row, u, first, at);
+        first += tasks.count;
+        at = tasks.end();
     }
     (at + 7) / 8
 }
@@ -155,15 +130,15 @@ fn lay_transactions(row: &[u32], buffer: &mut [u8])
     requires { Kept (table_of row.now) }
     ensures { buffer.new ≡ bits_put buffer.old first_at (joined (transactions (table_of row.now)) (λ u. transaction_bits (transaction_of row.now u))) }
 {
-    let count = Table::transactions(row) as usize;
+    let count = Table::transactions(row);
     let mut first: usize = 0;
     let mut at = Table::FIRST_AT;
-    let mut u: usize = 0;
-    while u < count {
-        lay_transaction(row, u, first, buffer, at);
-        first += Table::tasks(row, u) as usize;
-        at = end_of(row, u, at);
-        u += 1;
+    for u in 0..count as usize {
+        let tasks = Tasks::of(row, u, first, at);
+        lay_head(row, u, buffer, at);
+        lay_tasks(tasks, buffer);
+        first += tasks.count;
+        at = tasks.end();
     }
 }
 

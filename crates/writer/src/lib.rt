@@ -4,40 +4,29 @@
 
 ghost use Rattle.std.specs.Prelude.{◌≡◌};
 ghost use Rattle.row.specs.Row.{table_of};
-ghost use Rattle.writer.specs.Write.{writing_number, writing_place, Writes};
+ghost use Rattle.writer.specs.Write.{Writes};
 
-use refusals::{Answer, Refusal};
+use refusals::{Case, Fault, Refusal, check};
 
 mod lay;
+mod parts;
 mod scan;
 
-// What became of a table that was to be written.
-#[derive(Clone, Copy)]
-pub enum Writing {
-    // The image has that many bytes, and they are the buffer's first.
-    Written(usize),
-    // Refused, by the documents' number and place; every byte of the buffer stays as it was.
-    Refused(Refusal, usize),
+// An image that was written: how many bytes it has, which are the buffer's first.
+#[derive(Clone, Copy, PartialEq, Eq)]
+pub struct Written {
+    pub bytes: usize,
 }
 
-impl Writing {
-    pub fn number(self) -> u32
-        ensures { result ≡ writing_number self }
-    {
-        match self {
-            Writing::Written(_) => 0,
-            Writing::Refused(refusal, _) => refusal.number(),
-        }
-    }
+// What became of a table that was to be written; where it is refused, every byte of the buffer stays as it was.
+pub type Writing = Result<Written, Fault>;
 
-    // The place, or the image's length.
-    pub fn place(self) -> usize
-        ensures { result ≡ writing_place self }
-    {
-        match self {
-            Writing::Written(bytes) => bytes,
-            Writing::Refused(_, at) => at,
-        }
+// In the place's place stands the image's length.
+impl Case for Written {
+    ghost case_of = { λ w. w.bytes };
+
+    fn case(&self) -> usize {
+        self.bytes
     }
 }
 
@@ -45,16 +34,9 @@ impl Writing {
 pub fn write(row: &[u32], buffer: &mut [u8]) -> Writing
     ensures { Writes (table_of row.now) buffer.old buffer.new result }
 {
-    let found = scan::first_fault(row);
-    match found {
-        Answer::Refused(refusal, at) => Writing::Refused(refusal, at),
-        Answer::Accepted => {
-            let bytes = lay::size(row);
-            if buffer.len() < bytes {
-                return Writing::Refused(Refusal::BufferShort, 0);
-            }
-            lay::lay(row, buffer);
-            Writing::Written(bytes)
-        }
-    }
+    scan::first_fault(row)?;
+    let bytes = lay::size(row);
+    check(bytes <= buffer.len(), Refusal::BufferShort, 0)?;
+    lay::lay(row, buffer);
+    Ok(Written { bytes })
 }

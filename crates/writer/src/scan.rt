@@ -1,17 +1,16 @@
 // The first fault of the table that a row holds, front to back. Reading a cell is total, so each check reads its number whether the
 // row holds it or not. A count may be any number: what is counted is looked at only where the count was accepted, and all places
 // are small there, so that no sum wraps.
-ghost use Rattle.std.specs.Prelude.{◌≡◌, true, ℕ, ◌+◌, ◌*◌, ◌/◌, ◌^◌, ◌<◌, ◌≤◌};
-ghost use Rattle.table.specs.Sum.{greatest};
-ghost use Rattle.table.specs.Limits.{time_width, transactions_most, modes_most, tasks_most, tasks_in_all};
+ghost use Rattle.std.specs.Prelude.{◌≡◌, ◌+◌, ◌/◌, ◌^◌, ◌<◌, ◌≤◌, IsTrue};
+ghost use Rattle.table.specs.Limits.{time_width, transactions_most, tasks_in_all};
 ghost use Rattle.table.specs.Table.{transactions};
-ghost use Rattle.refusals.specs.declared.Answer.TheVariants.{Accepted};
-ghost use Rattle.refusals.specs.Answer.{◌then◌, first_of};
-ghost use Rattle.row.specs.Row.{modes_cell, has_cell, table_of, head_cell, time_cell};
-ghost use Rattle.format.specs.Places.{task_width, task_at};
+ghost use Rattle.refusals.specs.Answer.{accepted, first_of};
+ghost use Rattle.row.specs.Row.{table_of, time_cell};
+ghost use Rattle.format.specs.Places.{time_at};
 ghost use Rattle.format.specs.Write.{table_fault};
 ghost use Rattle.writer.specs.Scan.{fits_at, header_fault, task_fault, head_fault, transaction_fault, body_fault};
 
+use super::parts::{TaskAt, Tasks};
 use refusals::{Answer, Refusal, check};
 use row::{Table, Task, Transaction};
 
@@ -31,164 +30,99 @@ fn fits(number: u32, width: usize, at: usize) -> Answer
     check(above(number, width) == 0, Refusal::TooLarge, at)
 }
 
-// A field that has a rule: its number is too large for it, and then what the rule finds.
-fn field(number: u32, width: usize, at: usize, rule: Answer) -> Answer
-    requires { width < 32 }
-    ensures { result ≡ (fits_at number width at then rule) }
-{
-    fits(number, width, at).then(rule)
-}
-
+#[tactic(auto, unfolding(refusals::proofs::Findings::joining, table::specs::Rules::header_rules, table::specs::Fields::number_in))]
 fn header(row: &[u32]) -> Answer
     ensures { result ≡ header_fault row.now }
 {
     let edition = Table::edition(row);
     let frame = Table::frame(row);
     let count = Table::transactions(row);
-    field(edition, Table::EDITION_WIDTH, 0, rules::edition(edition, 0))
-        .then(field(
-            frame,
-            Table::FRAME_WIDTH,
-            Table::FRAME_AT,
-            rules::frame(frame, Table::FRAME_AT),
-        ))
-        .then(field(
-            count,
-            Table::TRANSACTIONS_WIDTH,
-            Table::COUNT_AT,
-            rules::transactions(count as usize, Table::COUNT_AT),
-        ))
+    fits(edition, Table::EDITION_WIDTH, 0)?;
+    rules::edition(edition, 0)?;
+    fits(frame, Table::FRAME_WIDTH, Table::FRAME_AT)?;
+    rules::frame(frame, Table::FRAME_AT)?;
+    fits(count, Table::TRANSACTIONS_WIDTH, Table::COUNT_AT)?;
+    rules::transactions(count as usize, Table::COUNT_AT)
 }
 
-// One of the times of task k is too large; the first would start at a bit position.
-fn times_fit(row: &[u32], modes: usize, k: usize, at: usize) -> Answer
-    requires modes_bound { modes < 16 }
-    requires at_bound { at < 2 ^ 33 }
-    ensures { result ≡ first_of modes (λ m. fits_at (time_cell row.now k m) time_width (at + m * time_width)) }
+// One of a task's times is too large.
+fn times_fit(task: TaskAt) -> Answer
+    ensures { result ≡ first_of task.entry.modes (λ m. fits_at (time_cell task.entry.row.now task.entry.number m) time_width (time_at task.entry.at m)) }
 {
-    let mut found = Answer::Accepted;
-    let mut m: usize = 0;
-    while m < modes {
-        let time = Table::time(row, k, m);
-        found = found.then(fits(time, Task::TIME_WIDTH, at + m * Task::TIME_WIDTH));
-        m += 1;
+    for m in 0..task.modes {
+        fits(task.time(m), Task::TIME_WIDTH, task.time_at(m))?;
     }
-    found
+    Ok(())
 }
 
-// The greatest of the times of task k.
-fn greatest_time(row: &[u32], modes: usize, k: usize) -> u32
-    requires { modes < 16 }
-    ensures { result ≡ greatest modes (λ m. time_cell row.now k m) }
-{
-    let mut most: u32 = 0;
-    let mut m: usize = 0;
-    while m < modes {
-        most = rules::greater(most, Table::time(row, k, m));
-        m += 1;
-    }
-    most
-}
-
-// Task k has no fault, as nearly every task: asked before its checks one by one, by one test for the five numbers before its times and
+// A task has no fault, as nearly every task: asked before its checks one by one, by one test for the five numbers before its times and
 // the greatest of these, of which nothing may lie above their fields. Where its deadline can be kept, that is not 0.
-fn is_sound(row: &[u32], modes: usize, k: usize) -> bool
-    requires { modes < 16 }
-    ensures { result ≡ true → (at : ℕ) → task_fault row.now modes k at ≡ Accepted }
+fn is_sound(task: TaskAt) -> bool
+    ensures { IsTrue result → task_fault task.entry.row.now task.entry.modes task.entry.number task.entry.at ≡ accepted }
 {
-    let offset = Table::offset(row, k);
-    let due = Table::deadline(row, k);
-    let time = greatest_time(row, modes, k);
+    let TaskAt { row, number, .. } = task;
+    let offset = Table::offset(row, number);
+    let due = Table::deadline(row, number);
+    let time = task.greatest_time();
     let over = above(offset, Task::OFFSET_WIDTH)
-        + above(Table::jitter(row, k), Task::JITTER_WIDTH)
-        + above(Table::blocking(row, k), Task::BLOCKING_WIDTH)
+        + above(Table::jitter(row, number), Task::JITTER_WIDTH)
+        + above(Table::blocking(row, number), Task::BLOCKING_WIDTH)
         + above(due, Task::DEADLINE_WIDTH)
-        + above(Table::priority(row, k), Task::PRIORITY_WIDTH)
+        + above(Table::priority(row, number), Task::PRIORITY_WIDTH)
         + above(time, Task::TIME_WIDTH);
-    if over == 0 {
-        if 0 < time {
-            return rules::is_keepable(offset, time, due);
-        }
-    }
-    false
+    over == 0 && 0 < time && rules::is_keepable(offset, time, due)
 }
 
-// The first fault of task k, which would start at a bit position, check by check.
-fn task_fault(row: &[u32], modes: usize, k: usize, at: usize) -> Answer
-    requires modes_bound { modes < 16 }
-    requires at_bound { at < 2 ^ 32 }
-    ensures { result ≡ task_fault row.now modes k at }
+// The first fault of a task, check by check.
+#[tactic(auto, unfolding(refusals::proofs::Findings::joining, table::specs::Rules::task_rules))]
+fn task_fault(task: TaskAt) -> Answer
+    ensures { result ≡ task_fault task.entry.row.now task.entry.modes task.entry.number task.entry.at }
 {
-    let deadline = at + Task::DEADLINE_AT;
-    let times = at + Task::TIMES_AT;
-    let offset = Table::offset(row, k);
-    let due = Table::deadline(row, k);
-    let time = greatest_time(row, modes, k);
-    fits(offset, Task::OFFSET_WIDTH, at)
-        .then(fits(
-            Table::jitter(row, k),
-            Task::JITTER_WIDTH,
-            at + Task::JITTER_AT,
-        ))
-        .then(fits(
-            Table::blocking(row, k),
-            Task::BLOCKING_WIDTH,
-            at + Task::BLOCKING_AT,
-        ))
-        .then(field(
-            due,
-            Task::DEADLINE_WIDTH,
-            deadline,
-            rules::deadline(due, deadline),
-        ))
-        .then(fits(
-            Table::priority(row, k),
-            Task::PRIORITY_WIDTH,
-            at + Task::PRIORITY_AT,
-        ))
-        .then(times_fit(row, modes, k, times))
-        .then(rules::times(time, times))
-        .then(rules::keepable(offset, time, due, deadline))
+    let TaskAt {
+        row,
+        number,
+        at,
+        ..
+    } = task;
+    let jitter_at = at + Task::JITTER_AT;
+    let blocking_at = at + Task::BLOCKING_AT;
+    let deadline_at = at + Task::DEADLINE_AT;
+    let priority_at = at + Task::PRIORITY_AT;
+    let offset = Table::offset(row, number);
+    let due = Table::deadline(row, number);
+    let time = task.greatest_time();
+    fits(offset, Task::OFFSET_WIDTH, at)?;
+    fits(Table::jitter(row, number), Task::JITTER_WIDTH, jitter_at)?;
+    fits(
+        Table::blocking(row, number),
+        Task::BLOCKING_WIDTH,
+        blocking_at,
+    )?;
+    fits(due, Task::DEADLINE_WIDTH, deadline_at)?;
+    rules::deadline(due, deadline_at)?;
+    fits(
+        Table::priority(row, number),
+        Task::PRIORITY_WIDTH,
+        priority_at,
+    )?;
+    times_fit(task)?;
+    rules::times(time, at + Task::TIMES_AT)?;
+    rules::keepable(offset, time, due, deadline_at)
 }
 
 // The same, where the checks are made only of a task that may have a fault.
-fn task(row: &[u32], modes: usize, k: usize, at: usize) -> Answer
-    requires modes_bound { modes < 16 }
-    requires at_bound { at < 2 ^ 32 }
-    ensures { result ≡ task_fault row.now modes k at }
+fn task(task: TaskAt) -> Answer
+    ensures { result ≡ task_fault task.entry.row.now task.entry.modes task.entry.number task.entry.at }
 {
-    let sound = is_sound(row, modes, k);
-    if sound {
-        Answer::Accepted
+    if is_sound(task) {
+        Ok(())
     } else {
-        task_fault(row, modes, k, at)
+        task_fault(task)
     }
-}
-
-// So many tasks from number `first` on; that one would start at a bit position.
-fn tasks(row: &[u32], modes: usize, first: usize, count: usize, at: usize) -> Answer
-    requires modes_bound { modes < 16 }
-    requires first_bound { first < 2 ^ 32 }
-    requires count_bound { count < 32 }
-    requires at_bound { at < 2 ^ 31 }
-    ensures { result ≡ first_of count (λ j. task_fault row.now modes (first + j) (at + j * task_width modes)) }
-{
-    let size = Task::TIMES_AT + modes * Task::TIME_WIDTH;
-    let mut found = Answer::Accepted;
-    let mut j: usize = 0;
-    while j < count {
-        let sound = found.is_accepted();
-        if sound {
-            found = task(row, modes, first + j, at + j * size);
-        } else {
-            return found;
-        }
-        j += 1;
-    }
-    found
 }
 
 // The counts and the period of transaction u, where `before` tasks stand before it.
+#[tactic(auto, unfolding(refusals::proofs::Findings::joining, table::specs::Rules::head_rules))]
 fn head(row: &[u32], u: usize, before: usize, at: usize) -> Answer
     requires { at < 2 ^ 32 }
     ensures { result ≡ head_fault row.now u before at }
@@ -199,24 +133,12 @@ fn head(row: &[u32], u: usize, before: usize, at: usize) -> Answer
     let period = Table::period(row, u);
     let modes = Table::modes(row, u);
     let tasks = Table::tasks(row, u);
-    field(
-        period,
-        Transaction::PERIOD_WIDTH,
-        at,
-        rules::period(frame, period, at),
-    )
-    .then(field(
-        modes,
-        Transaction::MODES_WIDTH,
-        modes_at,
-        rules::modes(modes as usize, modes_at),
-    ))
-    .then(field(
-        tasks,
-        Transaction::TASKS_WIDTH,
-        tasks_at,
-        rules::tasks(before, tasks as usize, tasks_at),
-    ))
+    fits(period, Transaction::PERIOD_WIDTH, at)?;
+    rules::period(frame, period, at)?;
+    fits(modes, Transaction::MODES_WIDTH, modes_at)?;
+    rules::modes(modes as usize, modes_at)?;
+    fits(tasks, Transaction::TASKS_WIDTH, tasks_at)?;
+    rules::tasks(before, tasks as usize, tasks_at)
 }
 
 fn transaction(row: &[u32], u: usize, before: usize, at: usize) -> Answer
@@ -224,27 +146,12 @@ fn transaction(row: &[u32], u: usize, before: usize, at: usize) -> Answer
     requires at_bound { at < 2 ^ 30 }
     ensures { result ≡ transaction_fault row.now u before at }
 {
-    let found = head(row, u, before, at);
-    let sound = found.is_accepted();
-    if sound {
-        let modes = Table::modes(row, u) as usize;
-        let count = Table::tasks(row, u) as usize;
-        tasks(row, modes, before, count, at + Transaction::WIDTH)
-    } else {
-        found
+    head(row, u, before, at)?;
+    let tasks = Tasks::of(row, u, before, at);
+    for j in 0..tasks.count {
+        task(tasks.task(j))?;
     }
-}
-
-// Where transaction u would end.
-pub(crate) fn end_of(row: &[u32], u: usize, at: usize) -> usize
-    requires modes_cell_bound { head_cell row.now u modes_cell ≤ modes_most }
-    requires has_cell_bound { head_cell row.now u has_cell ≤ tasks_most }
-    requires at_bound { at < 2 ^ 32 }
-    ensures { result ≡ task_at at (head_cell row.now u modes_cell) (head_cell row.now u has_cell) }
-{
-    let modes = Table::modes(row, u) as usize;
-    let tasks = Table::tasks(row, u) as usize;
-    at + Transaction::WIDTH + tasks * (Task::TIMES_AT + modes * Task::TIME_WIDTH)
+    Ok(())
 }
 
 // The transactions, where their count is accepted.
@@ -252,28 +159,22 @@ fn transactions(row: &[u32]) -> Answer
     requires { transactions (table_of row.now) ≤ transactions_most }
     ensures { result ≡ body_fault row.now }
 {
-    let count = Table::transactions(row) as usize;
+    let count = Table::transactions(row);
     let mut before: usize = 0;
     let mut at = Table::FIRST_AT;
-    let mut u: usize = 0;
-    while u < count {
-        let found = transaction(row, u, before, at);
-        let sound = found.is_accepted();
-        if sound {
-            before += Table::tasks(row, u) as usize;
-            at = end_of(row, u, at);
-        } else {
-            return found;
-        }
-        u += 1;
+    for u in 0..count as usize {
+        transaction(row, u, before, at)?;
+        let tasks = Tasks::of(row, u, before, at);
+        before += tasks.count;
+        at = tasks.end();
     }
-    Answer::Accepted
+    Ok(())
 }
 
+#[tactic(auto, unfolding(refusals::proofs::Findings::joining))]
 pub(crate) fn first_fault(row: &[u32]) -> Answer
     ensures { result ≡ table_fault (table_of row.now) }
 {
-    let found = header(row);
-    let sound = found.is_accepted();
-    if sound { transactions(row) } else { found }
+    header(row)?;
+    transactions(row)
 }

@@ -1,5 +1,7 @@
 -- `lay::lay_back` meets its contract: two fields.
-use mathlib.Core.Path.{◌∙◌}
+use mathlib.Core.Path.{◌≡◌, ◌∙◌}
+use Prim.Native.Nat.{◌+◌}
+use native.Mathlib.Omega.{arith}
 use Rattle.row.specs.Row.{deadline_cell, priority_cell}
 use Rattle.writer.specs.Parts.{back_bits}
 use Rattle.row.proofs.Readers.{body-cell}
@@ -9,17 +11,15 @@ use Rattle.writer.proofs.lay.lay_back.Goals as goal
 pub returns : goal.returns
 unfolding back_bits
 returns c =
-    let second = c in
-    let first = second in
-    let start = first in
-    let row = start.args.row.now in
-    let k = start.args.k in
-    second.put-2.ensures
+    let t = c.args.task in
+    let place : t.at + 98 ≡ t.at + 72 + 26 = omega arith in
+    c.put-2.ensures
     ∙ rw (
-      second.priority.ensures,
-      first.put.ensures,
-      first.deadline.ensures,
-      body-cell row k deadline_cell start.requires.k_lt_tasks_in_all,
-      body-cell row k priority_cell start.requires.k_lt_tasks_in_all,
+      c.priority.ensures,
+      c.put.ensures,
+      c.deadline.ensures,
+      body-cell t.row.now t.number deadline_cell t.number_bound,
+      body-cell t.row.now t.number priority_cell t.number_bound,
+      place,
     )
-    (two-laid start.args.buffer.now start.args.at 26 8 _ _)
+    (two-laid c.args.buffer.now (t.at + 72) 26 8 _ _)

@@ -9,24 +9,16 @@ use Rattle.writer.proofs.lay.lay_front.Goals as goal
 pub returns : goal.returns
 unfolding front_bits
 returns c =
-    let third = c in
-    let second = third in
-    let first = second in
-    let blocking = first in
-    let jitter = blocking in
-    let offset = jitter in
-    let start = offset in
-    let row = start.args.row.now in
-    let k = start.args.k in
-    third.put-3.ensures
+    let t = c.args.task in
+    c.put-3.ensures
     ∙ rw (
-      second.put-2.ensures,
-      first.put.ensures,
-      blocking.blocking-blocking.ensures,
-      jitter.jitter-jitter.ensures,
-      offset.offset-offset.ensures,
-      body-cell row k offset_cell start.requires.k_lt_tasks_in_all,
-      body-cell row k jitter_cell start.requires.k_lt_tasks_in_all,
-      body-cell row k blocking_cell start.requires.k_lt_tasks_in_all,
+      c.put-2.ensures,
+      c.put.ensures,
+      c.blocking-blocking.ensures,
+      c.jitter-jitter.ensures,
+      c.offset-offset.ensures,
+      body-cell t.row.now t.number offset_cell t.number_bound,
+      body-cell t.row.now t.number jitter_cell t.number_bound,
+      body-cell t.row.now t.number blocking_cell t.number_bound,
     )
-    (three-laid start.args.buffer.now start.args.at 24 24 24 _ _ _)
+    (three-laid c.args.buffer.now t.at 24 24 24 _ _ _)

@@ -5,11 +5,5 @@ use Rattle.writer.proofs.lay.lay_task.Goals as goal
 
 pub returns : goal.returns
 returns c =
-    let times = c in
-    let back = times in
-    let front = back in
-    let start = front in
-    let a = start.args in
-    times.lay_times.ensures
-    ∙ rw (back.lay_back.ensures, front.lay_front.ensures)
-    (task-laid a.row.now a.buffer.now a.at a.modes a.k)
+    let t = c.args.task in
+    c.lay_times.ensures ∙ rw (c.lay_back.ensures, c.lay_front.ensures) (task-laid t.row.now c.args.buffer.now t.at t.modes t.number)

@@ -1,12 +1,13 @@
 use mathlib.Core.Path.{◌≡◌}
-use Prim.Native.Nat.{◌-◌, ◌≤◌}
-use Rattle.table.specs.Table.{transactions}
-use Rattle.row.specs.Row.{table_of}
+use Prim.Native.Nat.{◌<◌}
+use Rattle.row.specs.Row.{tasks_before, table_of}
 use Rattle.format.specs.Write.{start_of}
 use Rattle.writer.proofs.lay.size.Given as goal
 
 abbrev pub invariant-loop-u : goal.invariant-loop-u
-invariant-loop-u l = (l.count ≡ transactions (table_of l.row)) × (l.u ≤ l.count) × (l.at ≡ start_of (table_of l.row) l.u)
-
-abbrev pub decreases-loop-u : goal.decreases-loop-u
-decreases-loop-u l = l.count - l.u
+invariant-loop-u l =
+    record {
+      tasks : l.first ≡ tasks_before l.row l.u;
+      starts : l.at ≡ start_of (table_of l.row) l.u;
+      near : l.at < 1_000_000;
+    }

@@ -1,8 +1,8 @@
 -- `scan::is_sound` meets its contract: a sum that is 0 has no part that is not, so that every number fits, and with the greatest time
 -- every time.
-use mathlib.Core.Path.{◌≡◌, sym}
+use mathlib.Core.Path.{◌≡◌}
 use mathlib.Core.List.{List}
-use mathlib.Core.Bool.{true, true≢false}
+use mathlib.Core.Bool.{true}
 use Prim.Native.Nat.{ℕ, ◌+◌, ◌/◌, ◌^◌, ◌<◌}
 use native.Mathlib.Omega.{arith}
 use lib.Dec.{leb}
@@ -42,20 +42,14 @@ every_fits row m k small priority has = small.4
 every_fits row m k small (time i) has = omega (arith, small.5, greatest-term m (λ j. time_cell row k j) i has)
 
 pub returns-then-time-gt0 : goal.returns-then-time-gt0
-returns-then-time-gt0 c =
-    λ kept.
-    let a = c.args in
-    let cell = body_cell a.row.now a.k in
-    let most : ℕ = greatest a.modes (λ i. time_cell a.row.now a.k i) in
+returns-then-time-gt0 c kept =
+    let t = c.args.task in
+    let cell = body_cell t.row.now t.number in
+    let most : ℕ = greatest t.modes (λ i. time_cell t.row.now t.number i) in
     let small = all_fit (cell offset_cell) (cell jitter_cell) (cell blocking_cell) (cell deadline_cell) (cell priority_cell) most (cc) in
     let asked : leb (cell offset_cell + most) (cell deadline_cell) ≡ true = cc in
-    no-fault a.row.now a.modes a.k
-    (every_fits a.row.now a.modes a.k small)
+    no-fault t.row.now t.modes t.number
+    (every_fits t.row.now t.modes t.number small)
     (omega arith)
     (leb-true (cell offset_cell + most) (cell deadline_cell) asked)
-
-pub returns-else-time-gt0 : goal.returns-else-time-gt0
-returns-else-time-gt0 c = λ sound. absurd (true≢false (sym sound))
-
-pub returns-else-over-eq0 : goal.returns-else-over-eq0
-returns-else-over-eq0 c = λ sound. absurd (true≢false (sym sound))
+    t.at

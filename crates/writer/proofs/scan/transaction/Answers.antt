@@ -1,29 +1,44 @@
--- `scan::transaction` meets its contract: its tasks are looked at where its head is sound, so the counts are small.
-use mathlib.Core.Path.{◌≡◌, sym, ◌∙◌}
+-- `scan::transaction` meets its contract. The invariant: its head is sound, and nothing was found at its first j tasks.
+use Rattle.std.proofs.Common.{rules, ◌≡◌}
+use mathlib.Core.Path.{refl, sym, ap, ◌∙◌}
 use native.Mathlib.Omega.{arith}
-use Rattle.refusals.specs.declared.Answer.TheVariants.{Accepted}
-use Rattle.refusals.specs.Answer.{◌then◌}
-use Rattle.refusals.proofs.Findings.{accepted-is, refused-then}
-use Rattle.writer.proofs.Scanned.{Small, small, transaction-parts}
+use Rattle.refusals.proofs.Findings.{joining, passes, fails}
+use Rattle.writer.proofs.Scanned.{small, transaction-parts}
+use Rattle.writer.proofs.Behind.{tasks_faults, behind-head}
 use Rattle.writer.proofs.scan.transaction.Goals as goal
 
-clear-after-tasks-count : (c : goal.After-tasks-count) → c.head-found.result ≡ Accepted
-clear-after-tasks-count c = accepted-is c.head-found.result (sym c.is_accepted-sound.ensures ∙ c.if-sound.true)
+pub returns-in_err-head : goal.returns-in_err-head
+unfolding joining
+returns-in_err-head c =
+    let parts = transaction-parts c.args.row.now c.args.u c.args.before c.args.at in
+    search rules
 
-few : (c : goal.After-tasks-count) → Small c.args.row.now c.args.u c.args.before
-few c = small _ _ _ _ (sym c.head-found.ensures ∙ clear-after-tasks-count c)
+pub of-tasks-requires : goal.of-tasks-requires
+of-tasks-requires c =
+    let few = small _ _ _ _ (sym c.head.ensures ∙ c.in_ok-head.was) in
+    record { modes_cell_bound = few.modes; has_cell_bound = few.tasks; in_all_bound = few.in_all; at_bound = c.requires.at_bound }
 
-pub tasks-requires : goal.tasks-requires
-tasks-requires c = rw (c.tasks-count.ensures, c.modes-modes.ensures) (omega (arith, few c, c.requires))
+pub loop-j-init : goal.loop-j-init
+unfolding joining
+loop-j-init c = refl
 
-clear-after-tasks : (c : goal.After-tasks) → c.head-found.result ≡ Accepted
-clear-after-tasks c = accepted-is c.head-found.result (sym c.is_accepted-sound.ensures ∙ c.if-sound.true)
+pub returns-in_err-task : goal.returns-in_err-task
+returns-in_err-task c =
+    let t = c.of-tasks.result in
+    let is = c.of-tasks.ensures in
+    let task = rw (c.task.ensures.row_value, c.task.ensures.number_value, c.task.ensures.modes_value, c.task.ensures.at_value) at c.task-in-loop-j.ensures in
+    let all = fails (tasks_faults t) t.count c.loop-j.j _ c.loop-j-test.true c.loop-j.invariant (sym task ∙ c.in_err-task.was) in
+    let found = behind-head _ _ _ t (ap (λ b. b.now) is.row_value) is.first_value is.count_value is.modes_value is.at_value (sym c.head.ensures ∙ c.in_ok-head.was) all in
+    search rules
 
-pub returns-then-sound : goal.returns-then-sound
-unfolding ◌then◌
-returns-then-sound c =
-    rw (transaction-parts _ _ _ _, ← c.head-found.ensures, clear-after-tasks c, c.tasks.ensures, c.tasks-count.ensures, c.modes-modes.ensures)
+pub loop-j-preserved : goal.loop-j-preserved
+loop-j-preserved c =
+    let task = rw (c.task.ensures.row_value, c.task.ensures.number_value, c.task.ensures.modes_value, c.task.ensures.at_value) at c.task-in-loop-j.ensures in
+    passes (tasks_faults c.of-tasks.result) c.loop-j.j c.loop-j.invariant (sym task ∙ c.in_ok-task.was)
 
-pub returns-else-sound : goal.returns-else-sound
-returns-else-sound c =
-    rw (transaction-parts _ _ _ _, ← c.head-found.ensures) (sym (refused-then c.head-found.result _ (sym c.is_accepted-sound.ensures ∙ c.if-sound.false)))
+pub returns : goal.returns
+returns c =
+    let t = c.of-tasks.result in
+    let is = c.of-tasks.ensures in
+    let all : c.loop-j.j ≡ t.count = omega arith in
+    sym (behind-head _ _ _ t (ap (λ b. b.now) is.row_value) is.first_value is.count_value is.modes_value is.at_value (sym c.head.ensures ∙ c.in_ok-head.was) (rw all at c.loop-j.invariant))
