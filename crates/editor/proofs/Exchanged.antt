@@ -11,9 +11,7 @@ use Rattle.format.proofs.Round.{AreBytes}
 use Rattle.row.specs.Row.{row_of, table_of}
 use Rattle.row.proofs.Rows.{row-holds}
 use Rattle.round.proofs.Row.{row-timed}
-use Rattle.writer.specs.declared.Writing.{Writing}
-use Rattle.writer.specs.declared.Writing.TheVariants.{Written}
-use Rattle.writer.specs.Write.{Writes}
+use Rattle.writer.specs.Write.{Writing, written, Writes}
 use Rattle.writer.proofs.Returned.{written_read, read-written}
 use Rattle.editor.specs.Editor.{Takes}
 
@@ -31,13 +29,13 @@ module _ {image cells filled : List ℕ} {r : ℕ} (ok : IsAccepted image) (take
       → AreBytes image
       → Writes (table_of filled) before after w
       → length image ≤ length before
-      → (w ≡ Written (length image)) × (after ≡ image ++ drop (length image) before)
+      → (w ≡ written (length image)) × (after ≡ image ++ drop (length image) before)
   same_bytes bytes x room = read-written image ok bytes (rw table_filled at x) room
 
 -- reading what was written: accepted, and the cells are the row of the table that was written
 pub same_row :
     (row : List ℕ) {cells filled before after : List ℕ} {n r : ℕ}
-    → Writes (table_of row) before after (Written n)
+    → Writes (table_of row) before after (written n)
     → Takes (take n after) cells filled r
     → filled ≡ row_of (table_of row)
 same_row row x taken =

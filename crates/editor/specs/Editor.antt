@@ -5,8 +5,7 @@ use Rattle.refusals.specs.Answer.{answer_number, answer_place}
 use Rattle.format.specs.Fault.{image_fault}
 use Rattle.image.specs.Read.{row_over}
 use Rattle.table.specs.Table.{Table}
-use Rattle.writer.specs.declared.Writing.{Writing}
-use Rattle.writer.specs.Write.{writing_number, writing_place, Writes}
+use Rattle.writer.specs.Write.{Writing, writing_number, writing_place, Writes}
 use Rattle.told.specs.Told.{paired}
 
 -- Takes image before after r: the cells held `before` and hold `after`, and r is the number

@@ -11,14 +11,12 @@ use row::Table;
 pub fn read(image: &[u8], cells: &mut [u32; Table::CELLS]) -> u64
     ensures { Takes image.now cells.old cells.new result }
 {
-    let answer = image::read_into(image, cells);
-    told::pair(answer.number(), answer.place() as u32)
+    told::tell(&image::read_into(image, cells))
 }
 
 // The image of the table in the cells, into the buffer: number × 2^32 + place, or the image's length.
 pub fn write(cells: &[u32; Table::CELLS], buffer: &mut [u8]) -> u64
     ensures { Gives (table_of cells.now) buffer.old buffer.new result }
 {
-    let written = writer::write(cells, buffer);
-    told::pair(written.number(), written.place() as u32)
+    told::tell(&writer::write(cells, buffer))
 }
