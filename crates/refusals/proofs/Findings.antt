@@ -1,5 +1,5 @@
 -- Laws of findings: the first one stays, and where there is none, however they are joined, each check held.
-use mathlib.Core.Path.{◌≡◌, refl, sym, ap, ◌∙◌}
+use mathlib.Core.Path.{◌≡◌, refl, ap, ◌∙◌}
 use mathlib.Core.Bool.{Bool, true, false, ◌&&◌}
 use Prim.Native.Nat.{ℕ, zero, suc, ◌+◌, ◌≤◌, ◌<◌}
 use native.Mathlib.Decide.{ℕ_discrete}
@@ -8,58 +8,33 @@ use native.Mathlib.Omega.{arith}
 use Rattle.refusals.specs.declared.Refusal.{Refusal}
 use Rattle.refusals.specs.declared.Fault.{Fault}
 use Rattle.std.specs.Prelude.{Ok, Err}
-use Rattle.refusals.specs.Answer.{Answer, accepted, refused, is_accepted, ◌then◌, found_of, first_of, checked}
+use Rattle.refusals.specs.Answer.{Answer, accepted, refused, ◌then◌, found_of, first_of, checked}
 
 -- one name that opens how findings are joined, for functions that give them by `?`
 unfoldable pub joining : Unit {0}
 unfolding ◌then◌ found_of first_of
 joining = tt
 
-pub refused-then : (a b : Answer) → is_accepted a ≡ false → (a then b) ≡ a
-unfolding ◌then◌
-refused-then (Ok x) b h = cc
-refused-then (Err f) b h = refl
-
-pub accepted-is : (a : Answer) → is_accepted a ≡ true → a ≡ accepted
-accepted-is (Ok x) h = refl
-accepted-is (Err f) h = cc
-
--- what goes by an answer is, of one that is not accepted, what it is of every refusal
-pub refused-gives : {A : Type 0} (g : Answer → A) (x : A) → ((r : Refusal) (at : ℕ) → g (refused r at) ≡ x) → (a : Answer) → is_accepted a ≡ false → g a ≡ x
-refused-gives g x each (Ok y) h = let z : ◌≡◌ {A = ℕ} 0 1 = cc in absurd (omega arith)
-refused-gives g x each (Err f) h = each f.refusal f.place
-
--- the first k of n have a finding: it is that of all n
-pub found-stays : (n k : ℕ) (f : ℕ → Answer) → k ≤ n → is_accepted (first_of k f) ≡ false → first_of n f ≡ first_of k f
-unfolding first_of
-found-stays zero k f h no_more =
-    let e : k ≡ 0 = omega arith in
-    ap (λ (i : ℕ). first_of i f) (sym e)
-found-stays (suc n) k f h found = go (ℕ_discrete k (suc n)) (λ below. found-stays n k f below found)
+-- a finding at the first k of n places is that of all n
+found-stays : (n k : ℕ) (f : ℕ → Answer) (e : Fault) → k ≤ n → first_of k f ≡ Err e → first_of n f ≡ Err e
+unfolding joining
+found-stays zero k f e h found =
+    let none : k ≡ 0 = omega arith in
+    rw none at found
+found-stays (suc n) k f e h found = go (ℕ_discrete k (suc n)) (λ below. found-stays n k f e below found)
   where
-    go : Dec (k ≡ suc n) → (k ≤ n → first_of n f ≡ first_of k f) → first_of (suc n) f ≡ first_of k f
-    go (yes e) earlier = ap (λ (i : ℕ). first_of i f) (sym e)
-    go (no ne) earlier =
-        let same : first_of n f ≡ first_of k f = earlier (omega arith) in
-        refused-then (first_of n f) (f n) (ap is_accepted same ∙ found) ∙ same
+    go : Dec (k ≡ suc n) → (k ≤ n → first_of n f ≡ Err e) → first_of (suc n) f ≡ Err e
+    go (yes all) earlier = rw all at found
+    go (no ne) earlier = rw (earlier (omega arith))
 
--- a loop over n places: no finding so far, so the next place's is that of one more; a finding so far is that of all
-pub go_on : (f : ℕ → Answer) (n : ℕ) (a : Answer) → a ≡ first_of n f → is_accepted a ≡ true → f n ≡ first_of (n + 1) f
-unfolding first_of ◌then◌
-go_on f n a so_far sound = rw (add-one n, first_of, ← so_far, accepted-is a sound)
-
-pub stop : (f : ℕ → Answer) (n k : ℕ) (a : Answer) → k ≤ n → a ≡ first_of k f → is_accepted a ≡ false → a ≡ first_of n f
-stop f n k a h so_far found = so_far ∙ sym (found-stays n k f h (ap is_accepted (sym so_far) ∙ found))
-
--- a loop that goes on only where there is none: with the next place's there is still none; a finding at the next place is that of all
+-- a loop over n places that goes on where there is no finding: with the next place's there is none still, or it is that of all
 pub passes : (f : ℕ → Answer) (k : ℕ) → first_of k f ≡ accepted → f k ≡ accepted → first_of (k + 1) f ≡ accepted
 unfolding first_of ◌then◌
 passes f k none next = rw (add-one k, first_of, none, next)
 
 pub fails : (f : ℕ → Answer) (n k : ℕ) (e : Fault) → k < n → first_of k f ≡ accepted → f k ≡ Err e → first_of n f ≡ Err e
-fails f n k e below none found =
-    let here : first_of (k + 1) f ≡ Err e = sym (go_on f k accepted (sym none) refl) ∙ found in
-    found-stays n (k + 1) f (omega arith) (ap is_accepted here) ∙ here
+unfolding first_of ◌then◌
+fails f n k e below none found = found-stays n (k + 1) f e (omega arith) (rw (add-one k, first_of, none, found))
 
 -- the order of findings is what counts, not how they are grouped
 pub then-assoc : (a b c : Answer) → (a then b then c) ≡ (a then (b then c))
@@ -71,14 +46,6 @@ pub then-accepted : (a : Answer) → (a then accepted) ≡ a
 unfolding ◌then◌
 then-accepted (Ok x) = refl
 then-accepted (Err f) = refl
-
--- a rule among findings, and three rules
-
-pub one-rule : (a b c d e f g : Answer) → (a then b then c then d then e then f then g) ≡ (a then (b then c) then d then e then f then g)
-one-rule a b c d e f g = ap (λ (x : Answer). x then d then e then f then g) (then-assoc a b c)
-
-pub three-rules : (a b c d e f : Answer) → (a then b then c then d then e then f) ≡ (a then b then (c then d) then (e then f))
-three-rules a b c d e f = then-assoc (a then b then c then d) e f ∙ ap (λ (x : Answer). x then (e then f)) (then-assoc (a then b) c d)
 
 -- ---- no finding: none of those that are joined
 

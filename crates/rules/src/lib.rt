@@ -2,7 +2,7 @@
 // refused at its place. It knows the limits of a table; it knows nothing of bits, of images or of rows' cells.
 #![tactic(auto)]
 
-ghost use Rattle.std.specs.Prelude.{◌≡◌, ◌&&◌, ◌+◌, max, leb, eqb};
+ghost use Rattle.std.specs.Prelude.{◌≡◌, ◌&&◌, ◌+◌, leb, eqb};
 ghost use Rattle.refusals.specs.Answer.{checked};
 ghost use Rattle.refusals.specs.declared.Refusal.TheVariants.{EditionUnknown, FrameZero, TransactionCount, PeriodUnfit, ModeCount, TaskCount, DeadlineZero, NeverRuns, DeadlineShort};
 ghost use Rattle.table.specs.Limits.{edition_known, transactions_most, modes_most, tasks_most, tasks_in_all};
@@ -83,13 +83,6 @@ pub fn deadline(n: u32, at: usize) -> Answer
     ensures { result ≡ checked (leb 1 n) DeadlineZero at }
 {
     check(1 <= n, Refusal::DeadlineZero, at)
-}
-
-// The greater of two times: the greatest of a task's times is found by it.
-pub fn greater(x: u32, y: u32) -> u32
-    ensures { result ≡ max x y }
-{
-    x.max(y)
 }
 
 // By the greatest of the task's times.
