@@ -187,6 +187,7 @@ impl TaskCells {
     }
 
     // Whether so many cells are enough for so many tasks.
+    #[tactic(auto, using(std::proofs::lemmas::Bool::Decides::nat_tests))]
     pub fn have_room(cells: usize, tasks: usize) -> bool
         ensures { result ≡ has_room cells tasks }
     {
