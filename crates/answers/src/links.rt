@@ -47,12 +47,7 @@ impl Weighed<'_> {
         ensures { result ≡ true → Below self.now.tab self.now.u self.now.a i m n }
     {
         let count = reads::tasks(self.work, i);
-        for j in 0..count {
-            if self.weight(i, n, j) < self.weight(i, m, j) {
-                return false;
-            }
-        }
-        true
+        (0..count).all(|j| self.weight(i, m, j) <= self.weight(i, n, j))
     }
 
     // Whether some later mode weighs no less.
@@ -62,12 +57,7 @@ impl Weighed<'_> {
         ensures { result ≡ true → Dropped self.now.tab self.now.u self.now.a i m }
     {
         let count = reads::modes(self.work, i);
-        for n in m + 1..count {
-            if self.is_below(i, m, n) {
-                return true;
-            }
-        }
-        false
+        (m + 1..count).any(|n| self.is_below(i, m, n))
     }
 
     // Whether the setting of candidate c in mode m is charged; else it is spare.
