@@ -3,6 +3,7 @@ pub mod Turn
 pub mod Ahead
 pub mod Work
 pub mod Parts
+pub mod Analysed
 pub mod Split
 pub mod Who
 pub mod Explained

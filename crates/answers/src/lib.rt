@@ -22,6 +22,7 @@ mod answers;
 mod chains;
 mod charges;
 mod layout;
+mod lent;
 mod links;
 mod overload;
 mod pushed;

@@ -16,10 +16,10 @@ ghost use Rattle.answers.specs.Work.{work_cells, Lent, IsSubject};
 
 use super::charges::Subject;
 use super::layout::Work;
+use super::lent::Linked;
 use super::quantity::{Moment, Ticks};
 use super::walk::Source;
-use super::who::Most;
-use super::{answers, chains, charges, reads, walk, who, work};
+use super::{answers, chains, charges, reads, walk, work};
 use parts::{Charge, Made, Part, Parts};
 use refusals::Refusal;
 use told::TaskAnswer;
@@ -104,14 +104,14 @@ pub(crate) fn charged(work: &[u32; Work::CELLS], s: Subject, whole: bool, i: usi
         return Part::Own;
     }
     if i < reads::transactions(work) {
-        let most = who::most_charged(work, s, whole, i, Ticks(reads::wide(t)));
-        let Most::Charged(ticks, by) = most else {
+        let cells = Linked { work, s };
+        let Some(most) = cells.most_charged(whole, i, Ticks(reads::wide(t))) else {
             return Part::NoRivals;
         };
         return Part::Charged(Charge {
-            ticks: ticks.0,
-            mode: by.mode as u32,
-            candidate: reads::number(work, i, by.candidate) as u32,
+            ticks: most.ticks.0,
+            mode: most.by.mode as u32,
+            candidate: reads::number(work, i, most.by.candidate) as u32,
         });
     }
     Part::NoTransaction
