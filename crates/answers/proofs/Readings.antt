@@ -1,15 +1,15 @@
 -- What is read from the work cells behind the table's row: which cell it stands in, and how large it is.
-use mathlib.Core.Path.{◌≡◌, ap, ◌∙◌}
+use mathlib.Core.Path.{◌≡◌, ap, ◌∙◌, subst}
 use mathlib.Core.Bool.{Bool, true, false}
 use mathlib.Core.List.{List}
-use Prim.Native.Nat.{ℕ, ◌+◌, ◌*◌, ◌-◌, ◌^◌, ◌≤◌, ◌<◌}
+use Prim.Native.Nat.{ℕ, ◌+◌, ◌*◌, ◌-◌, ◌/◌, ◌%◌, ◌^◌, ◌≤◌, ◌<◌}
 use native.Mathlib.Nat.{add-zero, add-mul, le_trans, mul-le-mul, mul-le-mul_right, le-mul_of_pos_right}
 use native.Mathlib.Omega.{arith}
 use lib.ListN.{get_or}
 use Rattle.row.specs.Row.{table_of}
 use Rattle.table.specs.Sum.{sum}
-use Rattle.table.specs.Limits.{modes_most, tasks_most, tasks_in_all}
-use Rattle.table.specs.Table.{Table, IsTask, period, modes, tasks}
+use Rattle.table.specs.Limits.{transactions_most, modes_most, tasks_most, tasks_in_all}
+use Rattle.table.specs.Table.{Table, IsTask, transactions, period, modes, tasks}
 use Rattle.table.specs.Number.{before, number}
 use Rattle.table.specs.Kept.{Kept}
 use Rattle.table.proofs.Sum.{sum-ext}
@@ -28,8 +28,8 @@ use Rattle.charge.specs.Weight.{weight, mode_weight, held_back}
 use Rattle.charge.specs.Links.{setting_number, NextSetting}
 use Rattle.charge.proofs.Weights.{weight-lt, mode-weight-le, held-back-le}
 use Rattle.charge.proofs.Split.{rest_le, rival-split, charge-split, charge-capped}
-use Rattle.charge.proofs.Along.{SettingAt}
-use Rattle.answers.specs.Split.{moment, IsSplit}
+use Rattle.charge.proofs.Along.{SettingAt, setting-at, end-le}
+use Rattle.answers.specs.Split.{moment, InWork, IsSplit, IsSetting}
 use Rattle.answers.specs.Work.{phases_cell, weights_cell, sums_cell, settings_cell, Lent, IsSubject}
 
 -- ---- ranges
@@ -100,14 +100,45 @@ module _ {tab : Table} (kept : Kept tab) {i : ℕ} {x : Split} (split : IsSplit 
 
 -- ---- cells
 
+-- what lent cells are of is kept
+pub kept-of : {work : List ℕ} {tab : Table} → Lent work → table_of work ≡ tab → Kept tab
+kept-of lent e = subst Kept e lent.table.kept
+
+-- a mode of a transaction by its number
+pub mode-room :
+    {work : List ℕ} {tab : Table} {i m : ℕ}
+    → Lent work
+    → table_of work ≡ tab
+    → i < transactions tab
+    → m < modes tab i
+    → modes_most * i + m < transactions_most * modes_most
+mode-room lent e h mode =
+    let kept = kept-of lent e in
+    omega (arith, kept.few_transactions, modes-few kept h)
+
+-- a mode and a task by its number
+pub cell-room :
+    {work : List ℕ} {tab : Table} {i j m : ℕ}
+    → Lent work
+    → table_of work ≡ tab
+    → IsTask tab i j
+    → m < modes tab i
+    → (number (table_of work) i j < tasks_in_all) × (m < modes_most)
+cell-room {work} {tab} {i} {j} lent e is mode =
+    let kept = kept-of lent e in
+    rw e (omega (arith, number_lt tab is, kept.few_tasks), omega (arith, modes-few kept is.owner))
+
 -- the rest of task j by its cells
 abbrev pub rest_cell : List ℕ → Bool → Split → (phases weights j : ℕ) → ℕ
 rest_cell work whole x phases weights j =
     rest_of whole x.periods x.period x.rest (get_or work (phases + j) 0) (get_or work (weights + j) 0)
 
--- what is read of candidate c in mode m lies within the cells, and there is a task
-abbrev pub InWork : Split → (m c : ℕ) → Type 0
-InWork x m c = (x.first + c < tasks_in_all) × ((m < modes_most) × ((1 ≤ x.count) × (x.count ≤ tasks_most)))
+-- what `rest_of` requires of a phase and a weight that are read
+pub record RestNeeds (x : Split) (phase weight : ℕ) : Type 0 where
+  pub period : x.period < 2 ^ 24
+  pub rest : x.rest < x.period
+  pub passed : phase < x.period
+  pub light : weight < 2 ^ 24
 
 module _ {work : List ℕ} (lent : Lent work) {i : ℕ} {x : Split} (split : IsSplit (table_of work) i x) where
   pub place-lt : {j : ℕ} → IsTask (table_of work) i j → x.first + j < tasks_in_all
@@ -120,7 +151,12 @@ module _ {work : List ℕ} (lent : Lent work) {i : ℕ} {x : Split} (split : IsS
       let kept = lent.table.kept in
       let m = modes-few kept t.owner in
       let n = tasks-few kept t.owner in
-      (place-lt t, (omega arith, (omega (arith, split.count, (kept.each i t.owner).some_task), omega (arith, split.count))))
+      record {
+        number = place-lt t;
+        mode = omega arith;
+        some = omega (arith, split.count, (kept.each i t.owner).some_task);
+        few = omega (arith, split.count);
+      }
 
   pub phase-at : {c j : ℕ} → IsTask (table_of work) i c → IsTask (table_of work) i j → get_or work (phases_cell + tasks_most * (x.first + c) + j) 0 ≡ phase_of (table_of work) i c j
   unfolding number
@@ -143,17 +179,17 @@ module _ {work : List ℕ} (lent : Lent work) {i : ℕ} {x : Split} (split : IsS
         → IsTask (table_of work) i c
         → (j : ℕ)
         → j < x.count
-        → (x.period < 2 ^ 24)
-        × ((x.rest < x.period)
-        × ((get_or work (phases_cell + tasks_most * (x.first + c) + j) 0 < x.period)
-        × (get_or work (weights_cell + tasks_in_all * m + x.first + j) 0 < 2 ^ 24)))
+        → RestNeeds x (get_or work (phases_cell + tasks_most * (x.first + c) + j) 0) (get_or work (weights_cell + tasks_in_all * m + x.first + j) 0)
     rest-needs {c} k j l =
         let kept = lent.table.kept in
         let own : j < tasks (table_of work) i = omega (arith, split.count) in
-        let t : IsTask (table_of work) i j = record { owner = k.owner; place = own } in (
-          omega (arith, split.period, period-lt kept k.owner),
-          (split.below, (rw (phase-at k t) (phase-of-below kept split c j), rw (weight-in t) (weight-lt kept s.u s.a k.owner mode j own))),
-        )
+        let t : IsTask (table_of work) i j = record { owner = k.owner; place = own } in
+        record {
+          period = omega (arith, split.period, period-lt kept k.owner);
+          rest = split.below;
+          passed = rw (phase-at k t) (phase-of-below kept split c j);
+          light = rw (weight-in t) (weight-lt kept s.u s.a k.owner mode j own);
+        }
 
     -- the rest of a task by its cells, and of all tasks
     module _ {c : ℕ} (k : IsTask (table_of work) i c) (whole : Bool) where
@@ -195,6 +231,31 @@ module _ {work : List ℕ} (lent : Lent work) {i : ℕ} {x : Split} (split : IsS
         ≡ held_back (table_of work) s.u s.a i m c
     unfolding number
     sum-at {c} t = rw split.first (subject.weighs.sum i m c t mode)
+
+-- a setting, and that its cells are there
+pub setting-in :
+    {work : List ℕ} {s : Subject} {i m c : ℕ} {x : Split}
+    → Lent work
+    → IsSubject work s
+    → IsTask (table_of work) i c
+    → m < modes (table_of work) i
+    → IsSplit (table_of work) i x
+    → IsSetting work s i m c x × InWork x m c
+setting-in lent subject is mode split =
+    (record { lent = lent; subject = subject; is_task = is; mode = mode; split = split }, in-work lent split is mode)
+
+-- the settings of a transaction are within the cells
+pub split-room : {work : List ℕ} {i : ℕ} {x : Split} → Lent work → IsSplit (table_of work) i x → x.first + x.count ≤ tasks_in_all
+split-room lent split = omega (arith, split.first, split.count, end-le split.owner lent.table.kept)
+
+-- the setting of a number
+pub at-setting :
+    {tab : Table} {i z : ℕ} {x : Split}
+    → IsSplit tab i x
+    → modes_most * before tab i ≤ z
+    → z < modes_most * (x.first + x.count)
+    → SettingAt tab i z (z % modes_most) (z / modes_most - x.first)
+at-setting split from below = rw split.first (setting-at split.owner from (omega (arith, split.first, split.count)))
 
 -- the links that stand there: from the first setting of a transaction, and from behind a setting
 module _ {work : List ℕ} {s : Subject} (subject : IsSubject work s) {i : ℕ} where

@@ -1,8 +1,10 @@
 pub mod Lent
+pub mod Near
 pub mod Turn
 pub mod Ahead
 pub mod Work
 pub mod Parts
+pub mod Analysed
 pub mod Split
 pub mod Who
 pub mod Explained

@@ -1,7 +1,8 @@
 -- A transaction at one t that is split by its period, in the code's own type.
-use Rattle.std.specs.Prelude.{◌≡◌, List, ℕ, ◌+◌, ◌*◌, ◌^◌, ◌<◌}
+use Rattle.std.specs.Prelude.{◌≡◌, List, ℕ, ◌+◌, ◌*◌, ◌^◌, ◌<◌, ◌≤◌}
 use Rattle.table.specs.Table.{Table, IsTask, transactions, period, modes, tasks}
 use Rattle.table.specs.Number.{before}
+use Rattle.table.specs.Limits.{modes_most, tasks_most, tasks_in_all}
 use Rattle.row.specs.Row.{table_of}
 use Rattle.answers.specs.declared.charges.Split.{Split}
 use Rattle.answers.specs.declared.charges.Subject.{Subject}
@@ -24,6 +25,13 @@ pub record IsSplit (tab : Table) (i : ℕ) (x : Split) : Type 0 where
 pub record IsSplitAt (tab : Table) (i t : ℕ) (x : Split) : Type 0 where
   pub is_split : IsSplit tab i x
   pub at : moment x ≡ t
+
+-- what is read of candidate c in mode m lies within the work cells, and there is a task
+pub record InWork (x : Split) (m c : ℕ) : Type 0 where
+  pub number : x.first + c < tasks_in_all
+  pub mode : m < modes_most
+  pub some : 1 ≤ x.count
+  pub few : x.count ≤ tasks_most
 
 -- candidate c of transaction i in mode m, at a t that x splits, by the subject's work cells
 pub record IsSetting (work : List ℕ) (s : Subject) (i m c : ℕ) (x : Split) : Type 0 where

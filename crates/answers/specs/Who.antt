@@ -1,10 +1,10 @@
 -- Who charges most, in the code's own type.
+use Rattle.std.specs.Prelude.{Option, None, Some}
 use Rattle.analysis.specs.Who as who
 use Rattle.analysis.specs.Who.{nobody, charged}
-use Rattle.answers.specs.declared.who.Most.{Most}
-use Rattle.answers.specs.declared.who.Most.TheVariants.{Nobody, Charged}
+use Rattle.answers.specs.declared.who.Charged.{Charged}
 
 -- what the code says, as the definition has it
-unfoldable pub most_said : Most → who.Most
-most_said Nobody = nobody
-most_said (Charged ticks by) = charged ticks.0 (record { mode = by.mode; candidate = by.candidate })
+unfoldable pub most_said : Option Charged → who.Most
+most_said None = nobody
+most_said (Some x) = charged x.ticks.0 (record { mode = x.by.mode; candidate = x.by.candidate })

@@ -25,4 +25,7 @@ impl Work {
     pub(crate) const OTHERS: usize = Work::SETTINGS + (Table::TASKS * Transaction::MODES + 1);
 
     pub(crate) const CELLS: usize = Work::OTHERS + (Table::TRANSACTIONS + 1);
+
+    // What one more in the upper half of a held-back sum is worth.
+    pub(crate) const HALF: u64 = 1 << 32;
 }

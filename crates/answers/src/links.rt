@@ -12,12 +12,97 @@ ghost use Rattle.answers.specs.Parts.{SameTo, LinkedFrom, OthersFrom};
 ghost use Rattle.charge.specs.Weight.{weight, mode_weight};
 ghost use Rattle.answers.specs.Work.{settings_cell, others_cell, Lent, Chosen, Weighs, IsSubject};
 
-use super::charges::{Subject, greater};
+use super::charges::Subject;
 use super::layout::Work;
-use super::{charges, reads};
+use super::lent::Weighed;
+use super::reads;
 use row::{Table, Transaction};
 
-// The weight of task j of transaction i in mode m: 0 where it is no rival.
+impl Weighed<'_> {
+    // The weight of task j of transaction i in mode m: 0 where it is no rival.
+    pub(crate) fn weight(&self, i: usize, m: usize, j: usize) -> u32
+        requires task { IsTask self.now.tab i j }
+        requires m_bound { m < modes self.now.tab i }
+        ensures { result ≡ weight self.now.tab self.now.u self.now.a i m j }
+    {
+        let work = self.work;
+        work[Work::WEIGHTS + Table::TASKS * m + reads::number(work, i, j)]
+    }
+
+    // The weights of transaction i in mode m together.
+    pub(crate) fn mode_weight(&self, i: usize, m: usize) -> u64
+        requires i_bound { i < transactions self.now.tab }
+        requires m_bound { m < modes self.now.tab i }
+        ensures { result ≡ mode_weight self.now.tab self.now.u self.now.a i m }
+    {
+        let work = self.work;
+        u64::from(work[Work::MODE_WEIGHTS + Transaction::MODES * i + m])
+    }
+
+    // Whether no task of transaction i weighs more in mode m than in mode n.
+    fn is_below(&self, i: usize, m: usize, n: usize) -> bool
+        requires i_bound { i < transactions self.now.tab }
+        requires m_bound { m < modes self.now.tab i }
+        requires n_bound { n < modes self.now.tab i }
+        ensures { result ≡ true → Below self.now.tab self.now.u self.now.a i m n }
+    {
+        let count = reads::tasks(self.work, i);
+        for j in 0..count {
+            if self.weight(i, n, j) < self.weight(i, m, j) {
+                return false;
+            }
+        }
+        true
+    }
+
+    // Whether some later mode weighs no less.
+    fn is_dropped(&self, i: usize, m: usize) -> bool
+        requires i_bound { i < transactions self.now.tab }
+        requires m_bound { m < modes self.now.tab i }
+        ensures { result ≡ true → Dropped self.now.tab self.now.u self.now.a i m }
+    {
+        let count = reads::modes(self.work, i);
+        for n in m + 1..count {
+            if self.is_below(i, m, n) {
+                return true;
+            }
+        }
+        false
+    }
+
+    // Whether the setting of candidate c in mode m is charged; else it is spare.
+    fn is_charged(&self, i: usize, m: usize, c: usize) -> bool
+        requires task { IsTask self.now.tab i c }
+        requires m_bound { m < modes self.now.tab i }
+        ensures not_weight { result ≡ true → ¬ (weight self.now.tab self.now.u self.now.a i m c ≡ 0) }
+        ensures spare { result ≡ false → Spare self.now.tab self.now.u self.now.a i m c }
+    {
+        self.weight(i, m, c) != 0 && !self.is_dropped(i, m)
+    }
+
+    // The greatest weight of a mode of transaction i: 0 where it has no rival.
+    fn most_mode_weight(&self, i: usize) -> u64
+        requires { i < transactions self.now.tab }
+        ensures { result ≡ most (modes self.now.tab i) (mode_weight self.now.tab self.now.u self.now.a i) }
+    {
+        let count = reads::modes(self.work, i);
+        let mut best: u64 = 0;
+        for m in 0..count {
+            best = best.max(self.mode_weight(i, m));
+        }
+        best
+    }
+
+    // Whether transaction i charges nothing beside that of the subject.
+    fn is_idle(&self, i: usize) -> bool
+        requires { i < transactions self.now.tab }
+        ensures idle { result ≡ true → Idle self.now.tab self.now.u self.now.a i }
+        ensures not_i { result ≡ false → ¬ (i ≡ self.now.u) }
+    {
+        i == self.s.u || self.most_mode_weight(i) == 0
+    }
+}
+
 pub(crate) fn weight(work: &[u32; Work::CELLS], s: Subject, i: usize, m: usize, j: usize) -> u32
     requires lent { Lent work.now }
     requires weighs { Weighs work.now s }
@@ -25,64 +110,8 @@ pub(crate) fn weight(work: &[u32; Work::CELLS], s: Subject, i: usize, m: usize, 
     requires m_bound { m < modes (table_of work.now) i }
     ensures { result ≡ weight (table_of work.now) s.u s.a i m j }
 {
-    work[Work::WEIGHTS + Table::TASKS * m + reads::number(work, i, j)]
-}
-
-// Whether no task of transaction i weighs more in mode m than in mode n.
-fn is_below(work: &[u32; Work::CELLS], s: Subject, i: usize, m: usize, n: usize) -> bool
-    requires lent { Lent work.now }
-    requires weighs { Weighs work.now s }
-    requires i_bound { i < transactions (table_of work.now) }
-    requires m_bound { m < modes (table_of work.now) i }
-    requires n_bound { n < modes (table_of work.now) i }
-    ensures { result ≡ true → Below (table_of work.now) s.u s.a i m n }
-{
-    let count = reads::tasks(work, i);
-    let mut j: usize = 0;
-    while j < count {
-        if weight(work, s, i, n, j) < weight(work, s, i, m, j) {
-            return false;
-        }
-        j += 1;
-    }
-    true
-}
-
-// Whether some later mode weighs no less.
-fn is_dropped(work: &[u32; Work::CELLS], s: Subject, i: usize, m: usize) -> bool
-    requires lent { Lent work.now }
-    requires weighs { Weighs work.now s }
-    requires i_bound { i < transactions (table_of work.now) }
-    requires m_bound { m < modes (table_of work.now) i }
-    ensures { result ≡ true → Dropped (table_of work.now) s.u s.a i m }
-{
-    let count = reads::modes(work, i);
-    let mut n = m + 1;
-    while n < count {
-        if is_below(work, s, i, m, n) {
-            return true;
-        }
-        n += 1;
-    }
-    false
-}
-
-// Whether the setting of candidate c in mode m is charged; else it is spare.
-fn is_charged(work: &[u32; Work::CELLS], s: Subject, i: usize, m: usize, c: usize) -> bool
-    requires lent { Lent work.now }
-    requires weighs { Weighs work.now s }
-    requires task { IsTask (table_of work.now) i c }
-    requires m_bound { m < modes (table_of work.now) i }
-    ensures not_weight { result ≡ true → ¬ (weight (table_of work.now) s.u s.a i m c ≡ 0) }
-    ensures spare { result ≡ false → Spare (table_of work.now) s.u s.a i m c }
-{
-    if weight(work, s, i, m, c) == 0 {
-        return false;
-    }
-    if is_dropped(work, s, i, m) {
-        return false;
-    }
-    true
+    let cells = Weighed { work, s };
+    cells.weight(i, m, j)
 }
 
 // Links the settings of task number k, where `after` is the next setting from the next task on; answers the next one from k on.
@@ -98,12 +127,12 @@ fn link_task(work: &mut [u32; Work::CELLS], s: Subject, k: usize, after: u32) ->
 {
     let i = reads::owner(&*work, k);
     let c = k - reads::before(&*work, i);
-    let mut m = reads::modes(&*work, i);
+    let modes = reads::modes(&*work, i);
     let mut next = after;
-    work[Work::SETTINGS + (Transaction::MODES * k + m)] = next;
-    while 0 < m {
-        m -= 1;
-        if is_charged(&*work, s, i, m, c) {
+    work[Work::SETTINGS + (Transaction::MODES * k + modes)] = next;
+    for m in (0..modes).rev() {
+        let cells = Weighed { work: &*work, s };
+        if cells.is_charged(i, m, c) {
             next = (Transaction::MODES * k + m) as u32;
         }
         work[Work::SETTINGS + (Transaction::MODES * k + m)] = next;
@@ -117,43 +146,11 @@ fn link_settings(work: &mut [u32; Work::CELLS], s: Subject)
     ensures linked_from { LinkedFrom (table_of work.old) s.u s.a 0 work.new }
     ensures same_to { SameTo settings_cell work.old work.new }
 {
-    let mut k = reads::in_all(&*work);
-    let mut next = (Transaction::MODES * k) as u32;
-    while 0 < k {
-        k -= 1;
+    let count = reads::in_all(&*work);
+    let mut next = (Transaction::MODES * count) as u32;
+    for k in (0..count).rev() {
         next = link_task(work, s, k, next);
     }
-}
-
-// The greatest weight of a mode of transaction i: 0 where it has no rival.
-fn most_mode_weight(work: &[u32; Work::CELLS], s: Subject, i: usize) -> u64
-    requires lent { Lent work.now }
-    requires weighs { Weighs work.now s }
-    requires i_bound { i < transactions (table_of work.now) }
-    ensures { result ≡ most (modes (table_of work.now) i) (mode_weight (table_of work.now) s.u s.a i) }
-{
-    let count = reads::modes(work, i);
-    let mut best: u64 = 0;
-    let mut m: usize = 0;
-    while m < count {
-        best = greater(best, charges::mode_weight(work, s, i, m));
-        m += 1;
-    }
-    best
-}
-
-// Whether transaction i charges nothing beside that of the subject.
-fn is_idle(work: &[u32; Work::CELLS], s: Subject, i: usize) -> bool
-    requires lent { Lent work.now }
-    requires weighs { Weighs work.now s }
-    requires i_bound { i < transactions (table_of work.now) }
-    ensures idle { result ≡ true → Idle (table_of work.now) s.u s.a i }
-    ensures not_i { result ≡ false → ¬ (i ≡ s.u) }
-{
-    if i == s.u {
-        return true;
-    }
-    most_mode_weight(work, s, i) == 0
 }
 
 fn link_others(work: &mut [u32; Work::CELLS], s: Subject)
@@ -163,13 +160,12 @@ fn link_others(work: &mut [u32; Work::CELLS], s: Subject)
     ensures others_from { OthersFrom (table_of work.old) s.u s.a 0 work.new }
     ensures same_to { SameTo others_cell work.old work.new }
 {
-    let mut i = reads::transactions(&*work);
-    let mut next = i as u32;
-    work[Work::OTHERS + i] = next;
-    while 0 < i {
-        i -= 1;
-        let idle = is_idle(&*work, s, i);
-        if !idle {
+    let count = reads::transactions(&*work);
+    let mut next = count as u32;
+    work[Work::OTHERS + count] = next;
+    for i in (0..count).rev() {
+        let cells = Weighed { work: &*work, s };
+        if !cells.is_idle(i) {
             next = i as u32;
         }
         work[Work::OTHERS + i] = next;

@@ -8,84 +8,89 @@ ghost use Rattle.analysis.specs.Overload.{load, counts?, most_load, frame_demand
 ghost use Rattle.answers.specs.Lent.{tested};
 ghost use Rattle.answers.specs.Work.{Lent, IsSubject};
 
-use super::charges::{Subject, greater};
+use super::charges::Subject;
 use super::layout::Work;
+use super::lent::Linked;
 use super::reads;
 
-// The time of task j, if its priority is at least the subject's.
-fn urgent_time(work: &[u32; Work::CELLS], s: Subject, i: usize, m: usize, j: usize) -> u64
-    requires lent { Lent work.now }
-    requires subject { IsSubject work.now s }
-    requires task { IsTask (table_of work.now) i j }
-    requires m_bound { m < modes (table_of work.now) i }
-    ensures { result ≡ when (urgent? (table_of work.now) s.u s.a i j) (time (table_of work.now) i m j) }
-{
-    if reads::priority(work, i, j) < s.priority {
-        0
-    } else {
-        reads::time(work, i, m, j)
-    }
-}
-
-// The times of a and its rivals in transaction i and mode m.
-fn load(work: &[u32; Work::CELLS], s: Subject, i: usize, m: usize) -> u64
-    requires lent { Lent work.now }
-    requires subject { IsSubject work.now s }
-    requires i_bound { i < transactions (table_of work.now) }
-    requires m_bound { m < modes (table_of work.now) i }
-    ensures { result ≡ load (table_of work.now) s.u s.a i m }
-{
-    let count = reads::tasks(work, i);
-    let mut sum: u64 = 0;
-    let mut j: usize = 0;
-    while j < count {
-        sum += urgent_time(work, s, i, m, j);
-        j += 1;
-    }
-    sum
-}
-
-// The load of a mode that counts: of the subject's own transaction only modes where it runs.
-fn counted_load(work: &[u32; Work::CELLS], s: Subject, i: usize, m: usize) -> u64
-    requires lent { Lent work.now }
-    requires subject { IsSubject work.now s }
-    requires i_bound { i < transactions (table_of work.now) }
-    requires m_bound { m < modes (table_of work.now) i }
-    ensures { result ≡ when (counts? (table_of work.now) s.u s.a i m) (load (table_of work.now) s.u s.a i m) }
-{
-    if i == s.u {
-        if reads::time(work, s.u, m, s.a) == 0 {
-            return 0;
+impl Linked<'_> {
+    // The time of task j, if its priority is at least the subject's.
+    fn urgent_time(&self, i: usize, m: usize, j: usize) -> u64
+        requires task { IsTask self.now.tab i j }
+        requires m_bound { m < modes self.now.tab i }
+        ensures { result ≡ when (urgent? self.now.tab self.now.u self.now.a i j) (time self.now.tab i m j) }
+    {
+        if reads::priority(self.work, i, j) < self.s.priority {
+            0
+        } else {
+            reads::time(self.work, i, m, j)
         }
     }
-    load(work, s, i, m)
-}
 
-// The greatest load of transaction i over the modes that count.
-fn most_load(work: &[u32; Work::CELLS], s: Subject, i: usize) -> u64
-    requires lent { Lent work.now }
-    requires subject { IsSubject work.now s }
-    requires i_bound { i < transactions (table_of work.now) }
-    ensures { result ≡ most_load (table_of work.now) s.u s.a i }
-{
-    let count = reads::modes(work, i);
-    let mut best: u64 = 0;
-    let mut m: usize = 0;
-    while m < count {
-        best = greater(best, counted_load(work, s, i, m));
-        m += 1;
+    // The times of a and its rivals in transaction i and mode m.
+    fn load(&self, i: usize, m: usize) -> u64
+        requires i_bound { i < transactions self.now.tab }
+        requires m_bound { m < modes self.now.tab i }
+        ensures { result ≡ load self.now.tab self.now.u self.now.a i m }
+    {
+        let count = reads::tasks(self.work, i);
+        let mut sum: u64 = 0;
+        for j in 0..count {
+            sum += self.urgent_time(i, m, j);
+        }
+        sum
     }
-    best
-}
 
-// What transaction i demands in one major frame.
-fn share(work: &[u32; Work::CELLS], s: Subject, i: usize) -> u64
-    requires lent { Lent work.now }
-    requires subject { IsSubject work.now s }
-    requires i_bound { i < transactions (table_of work.now) }
-    ensures { result ≡ (table_of work.now).frame / period (table_of work.now) i * most_load (table_of work.now) s.u s.a i }
-{
-    reads::frame(work) / reads::period(work, i) * most_load(work, s, i)
+    // The load of a mode that counts: of the subject's own transaction only modes where it runs.
+    fn counted_load(&self, i: usize, m: usize) -> u64
+        requires i_bound { i < transactions self.now.tab }
+        requires m_bound { m < modes self.now.tab i }
+        ensures { result ≡ when (counts? self.now.tab self.now.u self.now.a i m) (load self.now.tab self.now.u self.now.a i m) }
+    {
+        if i == self.s.u && reads::time(self.work, i, m, self.s.a) == 0 {
+            0
+        } else {
+            self.load(i, m)
+        }
+    }
+
+    // The greatest load of transaction i over the modes that count.
+    fn most_load(&self, i: usize) -> u64
+        requires { i < transactions self.now.tab }
+        ensures { result ≡ most_load self.now.tab self.now.u self.now.a i }
+    {
+        let count = reads::modes(self.work, i);
+        let mut best: u64 = 0;
+        for m in 0..count {
+            best = best.max(self.counted_load(i, m));
+        }
+        best
+    }
+
+    // What transaction i demands in one major frame.
+    fn share(&self, i: usize) -> u64
+        requires { i < transactions self.now.tab }
+        ensures { result ≡ self.now.tab.frame / period self.now.tab i * most_load self.now.tab self.now.u self.now.a i }
+    {
+        reads::frame(self.work) / reads::period(self.work, i) * self.most_load(i)
+    }
+
+    pub(crate) fn frame_demand(&self) -> u64
+        ensures { result ≡ frame_demand self.now.tab self.now.u self.now.a }
+    {
+        let count = reads::transactions(self.work);
+        let mut sum: u64 = 0;
+        for i in 0..count {
+            sum += self.share(i);
+        }
+        sum
+    }
+
+    pub(crate) fn is_overload(&self) -> bool
+        ensures { result ≡ tested (overload? self.now.tab self.now.u self.now.a) }
+    {
+        reads::frame(self.work) < self.frame_demand()
+    }
 }
 
 pub(crate) fn frame_demand(work: &[u32; Work::CELLS], s: Subject) -> u64
@@ -93,14 +98,8 @@ pub(crate) fn frame_demand(work: &[u32; Work::CELLS], s: Subject) -> u64
     requires subject { IsSubject work.now s }
     ensures { result ≡ frame_demand (table_of work.now) s.u s.a }
 {
-    let count = reads::transactions(work);
-    let mut sum: u64 = 0;
-    let mut i: usize = 0;
-    while i < count {
-        sum += share(work, s, i);
-        i += 1;
-    }
-    sum
+    let cells = Linked { work, s };
+    cells.frame_demand()
 }
 
 pub(crate) fn is_overload(work: &[u32; Work::CELLS], s: Subject) -> bool
@@ -108,5 +107,6 @@ pub(crate) fn is_overload(work: &[u32; Work::CELLS], s: Subject) -> bool
     requires subject { IsSubject work.now s }
     ensures { result ≡ tested (overload? (table_of work.now) s.u s.a) }
 {
-    reads::frame(work) < frame_demand(work, s)
+    let cells = Linked { work, s };
+    cells.is_overload()
 }

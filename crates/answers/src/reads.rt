@@ -23,20 +23,20 @@ pub(crate) fn index(x: u32) -> usize
 pub(crate) fn frame(work: &[u32; Work::CELLS]) -> u64
     ensures { result ≡ (table_of work.now).frame }
 {
-    wide(Table::frame(work))
+    u64::from(Table::frame(work))
 }
 
 pub(crate) fn transactions(work: &[u32; Work::CELLS]) -> usize
     ensures { result ≡ transactions (table_of work.now) }
 {
-    index(Table::transactions(work))
+    Table::transactions(work) as usize
 }
 
 pub(crate) fn in_all(work: &[u32; Work::CELLS]) -> usize
     requires { RowOfTable work.now }
     ensures { result ≡ in_all (table_of work.now) }
 {
-    index(Table::in_all(work))
+    Table::in_all(work) as usize
 }
 
 pub(crate) fn period(work: &[u32; Work::CELLS], i: usize) -> u64
@@ -44,7 +44,7 @@ pub(crate) fn period(work: &[u32; Work::CELLS], i: usize) -> u64
     requires i_bound { i < transactions (table_of work.now) }
     ensures { result ≡ period (table_of work.now) i }
 {
-    wide(Table::period(work, i))
+    u64::from(Table::period(work, i))
 }
 
 pub(crate) fn modes(work: &[u32; Work::CELLS], i: usize) -> usize
@@ -52,7 +52,7 @@ pub(crate) fn modes(work: &[u32; Work::CELLS], i: usize) -> usize
     requires i_bound { i < transactions (table_of work.now) }
     ensures { result ≡ modes (table_of work.now) i }
 {
-    index(Table::modes(work, i))
+    Table::modes(work, i) as usize
 }
 
 // The number of tasks before transaction i.
@@ -61,7 +61,7 @@ pub(crate) fn before(work: &[u32; Work::CELLS], i: usize) -> usize
     requires i_bound { i < transactions (table_of work.now) }
     ensures { result ≡ before (table_of work.now) i }
 {
-    index(Table::first(work, i))
+    Table::first(work, i) as usize
 }
 
 pub(crate) fn tasks(work: &[u32; Work::CELLS], i: usize) -> usize
@@ -69,16 +69,16 @@ pub(crate) fn tasks(work: &[u32; Work::CELLS], i: usize) -> usize
     requires i_bound { i < transactions (table_of work.now) }
     ensures { result ≡ tasks (table_of work.now) i }
 {
-    index(Table::tasks(work, i))
+    Table::tasks(work, i) as usize
 }
 
 // The number of task j of transaction i.
-pub(crate) fn number(row: &[u32], i: usize, j: usize) -> usize
-    requires row_of_table { RowOfTable row.now }
-    requires task { IsTask (table_of row.now) i j }
-    ensures { result ≡ number (table_of row.now) i j }
+pub(crate) fn number(work: &[u32; Work::CELLS], i: usize, j: usize) -> usize
+    requires row_of_table { RowOfTable work.now }
+    requires task { IsTask (table_of work.now) i j }
+    ensures { result ≡ number (table_of work.now) i j }
 {
-    index(Table::first(row, i)) + j
+    Table::first(work, i) as usize + j
 }
 
 // The transaction of task number k.
@@ -87,7 +87,7 @@ pub(crate) fn owner(work: &[u32; Work::CELLS], k: usize) -> usize
     requires k_bound { k < in_all (table_of work.now) }
     ensures { Owner (table_of work.now) k result }
 {
-    index(Table::owner(work, k))
+    Table::owner(work, k) as usize
 }
 
 pub(crate) fn offset(work: &[u32; Work::CELLS], i: usize, j: usize) -> u64
@@ -95,7 +95,7 @@ pub(crate) fn offset(work: &[u32; Work::CELLS], i: usize, j: usize) -> u64
     requires task { IsTask (table_of work.now) i j }
     ensures { result ≡ offset (table_of work.now) i j }
 {
-    wide(Table::offset(work, number(work, i, j)))
+    u64::from(Table::offset(work, number(work, i, j)))
 }
 
 pub(crate) fn blocking(work: &[u32; Work::CELLS], i: usize, j: usize) -> u64
@@ -103,7 +103,7 @@ pub(crate) fn blocking(work: &[u32; Work::CELLS], i: usize, j: usize) -> u64
     requires task { IsTask (table_of work.now) i j }
     ensures { result ≡ blocking (table_of work.now) i j }
 {
-    wide(Table::blocking(work, number(work, i, j)))
+    u64::from(Table::blocking(work, number(work, i, j)))
 }
 
 pub(crate) fn priority(work: &[u32; Work::CELLS], i: usize, j: usize) -> u32
@@ -120,5 +120,5 @@ pub(crate) fn time(work: &[u32; Work::CELLS], i: usize, m: usize, j: usize) -> u
     requires m_bound { m < modes (table_of work.now) i }
     ensures { result ≡ time (table_of work.now) i m j }
 {
-    wide(Table::time(work, number(work, i, j), m))
+    u64::from(Table::time(work, number(work, i, j), m))
 }

@@ -1,8 +1,8 @@
 // Filling the work cells, which begin with a table's row: its phases and held-back jobs once for a table, and the weights with
 // their sums once for each task under analysis.
-ghost use Rattle.std.specs.Prelude.{◌≡◌, ◌+◌, ◌*◌, ◌<◌, ◌^◌, length};
+ghost use Rattle.std.specs.Prelude.{◌≡◌, ◌+◌, ◌*◌, ◌<◌, ◌≤◌, ◌^◌, length};
 ghost use Rattle.table.specs.Table.{IsTask, transactions, modes};
-ghost use Rattle.table.specs.Limits.{modes_most};
+ghost use Rattle.table.specs.Limits.{transactions_most, modes_most, tasks_most, tasks_in_all};
 ghost use Rattle.table.specs.Number.{before, in_all};
 ghost use Rattle.row.specs.Row.{row_cells, table_of, RowOfTable};
 ghost use Rattle.periods.specs.Phase.{phase};
@@ -37,8 +37,8 @@ pub(crate) fn task(work: &[u32; Work::CELLS], k: usize) -> Subject
     requires k_bound { k < in_all (table_of work.now) }
     ensures { IsSubjectAt (table_of work.now) k result }
 {
-    let u = reads::index(Table::owner(work, k));
-    let a = k - reads::index(Table::first(work, u));
+    let u = Table::owner(work, k) as usize;
+    let a = k - Table::first(work, u) as usize;
     Subject {
         u,
         a,
@@ -86,13 +86,11 @@ fn put_phases(work: &mut [u32; Work::CELLS], k: usize)
     let i = x.u;
     let c = x.a;
     let count = reads::tasks(&*work, i);
-    let mut j: usize = 0;
-    while j < count {
+    for j in 0..count {
         let phase = phase_of(&*work, i, c, j);
         let held = held_of(&*work, i, c, j);
         work[Work::PHASES + Transaction::TASKS * k + j] = phase;
         work[Work::HELD + Transaction::TASKS * k + j] = held;
-        j += 1;
     }
 }
 
@@ -104,10 +102,8 @@ pub(crate) fn prepare(work: &mut [u32; Work::CELLS])
     ensures work_unchanged { table_of work.new ≡ table_of work.old }
 {
     let count = reads::in_all(&*work);
-    let mut k: usize = 0;
-    while k < count {
+    for k in 0..count {
         put_phases(work, k);
-        k += 1;
     }
 }
 
@@ -124,94 +120,77 @@ fn weight(work: &[u32; Work::CELLS], s: Subject, i: usize, m: usize, j: usize, k
     if work[cell + Task::PRIORITY_CELL] < s.priority {
         return 0;
     }
-    if i == s.u {
-        if j == s.a {
-            return 0;
-        }
+    if i == s.u && j == s.a {
+        return 0;
     }
     work[cell + (Task::TIMES_CELL + m)]
 }
 
-// The weights of transaction i in mode m, and their sum.
-fn put_weights(
-    work: &mut [u32; Work::CELLS],
-    s: Subject,
+// Transaction i in mode m: the number of its first task, and how many it has.
+#[derive(Clone, Copy)]
+struct Mode {
     i: usize,
     m: usize,
     first: usize,
     count: usize,
-)
+    ghost in_table: { i < transactions_most },
+    ghost few_modes: { m < modes_most },
+    ghost few_tasks: { count ≤ tasks_most },
+    ghost within: { first + count ≤ tasks_in_all },
+}
+
+// The weights of its tasks, and their sum.
+fn put_weights(work: &mut [u32; Work::CELLS], s: Subject, of: Mode)
     requires lent { Lent work.old }
     requires chosen { Chosen (table_of work.old) s }
-    requires tasks_of { TasksOf (table_of work.old) i first count }
-    requires m_bound { m < modes (table_of work.old) i }
-    requires weighed_to { WeighedTo (table_of work.old) s.u s.a (modes_most * i + m) work.old }
+    requires tasks_of { TasksOf (table_of work.old) of.i of.first of.count }
+    requires m_bound { of.m < modes (table_of work.old) of.i }
+    requires weighed_to { WeighedTo (table_of work.old) s.u s.a (modes_most * of.i + of.m) work.old }
     ensures same_to { SameTo weights_cell work.old work.new }
-    ensures weighed_to_2 { WeighedTo (table_of work.old) s.u s.a (modes_most * i + m) work.new }
-    ensures mode_weighed { ModeWeighed (table_of work.old) s.u s.a i m work.new }
+    ensures weighed_to_2 { WeighedTo (table_of work.old) s.u s.a (modes_most * of.i + of.m) work.new }
+    ensures mode_weighed { ModeWeighed (table_of work.old) s.u s.a of.i of.m work.new }
 {
     let mut mode_weight: u32 = 0;
-    let mut j: usize = 0;
-    while j < count {
-        let weight = weight(&*work, s, i, m, j, first + j);
-        work[Work::WEIGHTS + Table::TASKS * m + (first + j)] = weight;
+    for j in 0..of.count {
+        let weight = weight(&*work, s, of.i, of.m, j, of.first + j);
+        work[Work::WEIGHTS + Table::TASKS * of.m + (of.first + j)] = weight;
         mode_weight += weight;
-        j += 1;
     }
-    work[Work::MODE_WEIGHTS + Transaction::MODES * i + m] = mode_weight;
+    work[Work::MODE_WEIGHTS + Transaction::MODES * of.i + of.m] = mode_weight;
 }
 
 // What the jobs held back to candidate c's instant weigh, from the cells.
-fn held_back(
-    work: &[u32; Work::CELLS],
-    s: Subject,
-    i: usize,
-    m: usize,
-    first: usize,
-    count: usize,
-    c: usize,
-) -> u64
+fn held_back(work: &[u32; Work::CELLS], s: Subject, of: Mode, c: usize) -> u64
     requires lent { Lent work.now }
-    requires tasks_of { TasksOf (table_of work.now) i first count }
-    requires m_bound { m < modes (table_of work.now) i }
-    requires mode_weighed { ModeWeighed (table_of work.now) s.u s.a i m work.now }
-    requires c_lt_count { c < count }
-    ensures { result ≡ held_back (table_of work.now) s.u s.a i m c }
+    requires tasks_of { TasksOf (table_of work.now) of.i of.first of.count }
+    requires m_bound { of.m < modes (table_of work.now) of.i }
+    requires mode_weighed { ModeWeighed (table_of work.now) s.u s.a of.i of.m work.now }
+    requires c_lt_count { c < of.count }
+    ensures { result ≡ held_back (table_of work.now) s.u s.a of.i of.m c }
 {
     let mut held: u64 = 0;
-    let mut j: usize = 0;
-    while j < count {
-        held += reads::wide(work[Work::HELD + Transaction::TASKS * (first + c) + j])
-            * reads::wide(work[Work::WEIGHTS + Table::TASKS * m + (first + j)]);
-        j += 1;
+    for j in 0..of.count {
+        held += u64::from(work[Work::HELD + Transaction::TASKS * (of.first + c) + j])
+            * u64::from(work[Work::WEIGHTS + Table::TASKS * of.m + (of.first + j)]);
     }
     held
 }
 
-// The held-back sums of the candidates of transaction i in mode m, each with its lower half first.
-fn put_sums(
-    work: &mut [u32; Work::CELLS],
-    s: Subject,
-    i: usize,
-    m: usize,
-    first: usize,
-    count: usize,
-)
+// The held-back sums of its candidates, each with its lower half first.
+fn put_sums(work: &mut [u32; Work::CELLS], s: Subject, of: Mode)
     requires lent { Lent work.old }
-    requires tasks_of { TasksOf (table_of work.old) i first count }
-    requires m_bound { m < modes (table_of work.old) i }
-    requires weighed_to { WeighedTo (table_of work.old) s.u s.a (modes_most * i + m) work.old }
-    requires mode_weighed { ModeWeighed (table_of work.old) s.u s.a i m work.old }
+    requires tasks_of { TasksOf (table_of work.old) of.i of.first of.count }
+    requires m_bound { of.m < modes (table_of work.old) of.i }
+    requires weighed_to { WeighedTo (table_of work.old) s.u s.a (modes_most * of.i + of.m) work.old }
+    requires mode_weighed { ModeWeighed (table_of work.old) s.u s.a of.i of.m work.old }
     ensures same_to { SameTo weights_cell work.old work.new }
-    ensures weighed_to_2 { WeighedTo (table_of work.old) s.u s.a (modes_most * i + (m + 1)) work.new }
+    ensures weighed_to_2 { WeighedTo (table_of work.old) s.u s.a (modes_most * of.i + (of.m + 1)) work.new }
 {
-    let mut c: usize = 0;
-    while c < count {
-        let held = held_back(&*work, s, i, m, first, count, c);
-        let at = Work::SUMS + 2 * (Transaction::MODES * (first + c) + m);
-        work[at] = (held % 4_294_967_296) as u32;
-        work[at + 1] = (held / 4_294_967_296) as u32;
-        c += 1;
+    for c in 0..of.count {
+        let held = held_back(&*work, s, of, c);
+        let at = Work::SUMS + 2 * (Transaction::MODES * (of.first + c) + of.m);
+        work[at] = (held % Work::HALF) as u32;
+        work[at + 1] = (held / Work::HALF) as u32;
     }
 }
 
@@ -226,11 +205,10 @@ fn weigh_transaction(work: &mut [u32; Work::CELLS], s: Subject, i: usize)
     let first = reads::before(&*work, i);
     let count = reads::tasks(&*work, i);
     let modes = reads::modes(&*work, i);
-    let mut m: usize = 0;
-    while m < modes {
-        put_weights(work, s, i, m, first, count);
-        put_sums(work, s, i, m, first, count);
-        m += 1;
+    for m in 0..modes {
+        let of = Mode { i, m, first, count };
+        put_weights(work, s, of);
+        put_sums(work, s, of);
     }
 }
 
@@ -243,9 +221,7 @@ pub(crate) fn weigh(work: &mut [u32; Work::CELLS], s: Subject)
     ensures weighs { Weighs work.new s }
 {
     let count = reads::transactions(&*work);
-    let mut i: usize = 0;
-    while i < count {
+    for i in 0..count {
         weigh_transaction(work, s, i);
-        i += 1;
     }
 }

@@ -16,4 +16,4 @@ returns c =
     let lent = s.requires.lent in let candidate = s.requires.task in let is_task = s.requires.task_2 in
     let at : held_cell + c.place.result ≡ held_cell + tasks_most * number (table_of a.work.now) a.i a.c + a.j =
     omega (arith, c.place.ensures.place) in
-    c.wide.ensures ∙ ap (λ (n : ℕ). get_or a.work.now n 0) at ∙ lent.held a.i a.c a.j candidate is_task
+    c.from.ensures ∙ ap (λ (n : ℕ). get_or a.work.now n 0) at ∙ lent.held a.i a.c a.j candidate is_task

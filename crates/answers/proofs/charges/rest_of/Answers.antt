@@ -11,31 +11,27 @@ returns-then-phase-x c =
     let x = c.args.x in
     rw c.if-whole.true (sym (released-passed x.periods x.period x.rest _ _ c.if-phase-x.true))
 
-pub returns-then-whole : goal.returns-then-whole
-returns-then-whole c =
+pub returns-else-phase-x : goal.returns-else-phase-x
+returns-else-phase-x c =
     let x = c.args.x in
-    let a = c.args in
-    rw c.if-whole.true (sym (released-waiting x.periods x.period x.rest a.phase a.weight c.if-phase-x.false))
+    rw c.if-whole.true (sym (released-waiting x.periods x.period x.rest c.args.phase c.args.weight c.if-phase-x.false))
 
 pub returns-then-x-eq0 : goal.returns-then-x-eq0
 returns-then-x-eq0 c =
-    let s = c in
-    let a = s.args in
-    rw (s.if-whole.false, c.if-x-eq0.true)
-    (omega (arith, c.lesser.ensures, c.after.ensures, imposed-first a.x.period a.x.rest a.phase a.weight))
+    let a = c.args in
+    rw (c.if-whole.false, c.if-x-eq0.true)
+    (omega (arith, imposed-first a.x.period a.x.rest a.phase a.weight))
 
 pub returns-then-phase-x-2 : goal.returns-then-phase-x-2
 returns-then-phase-x-2 c =
-    let s = c in
-    let a = s.args in
-    let some : 0 < a.x.periods = omega (arith, s.if-x-eq0.false) in
-    rw s.if-whole.false
-    (omega (arith, c.lesser-then-phase-x-2.ensures, imposed-passed a.x.periods a.x.period a.x.rest a.phase a.weight some c.if-phase-x-2.true))
+    let a = c.args in
+    let some : 0 < a.x.periods = omega arith in
+    rw c.if-whole.false
+    (omega (arith, imposed-passed a.x.periods a.x.period a.x.rest a.phase a.weight some c.if-phase-x-2.true))
 
 pub returns : goal.returns
 returns c =
-    let s = c in
-    let a = s.args in
-    let some : 0 < a.x.periods = omega (arith, s.if-x-eq0.false) in
-    rw s.if-whole.false
-    (omega (arith, c.lesser-2.ensures, imposed-waiting a.x.periods a.x.period a.x.rest a.phase a.weight some c.if-phase-x-2.false))
+    let a = c.args in
+    let some : 0 < a.x.periods = omega arith in
+    rw c.if-whole.false
+    (omega (arith, imposed-waiting a.x.periods a.x.period a.x.rest a.phase a.weight some c.if-phase-x-2.false))

@@ -8,10 +8,6 @@ pub returns-then-whole : goal.returns-then-whole
 unfolding whole_periods
 returns-then-whole c = rw c.if-whole.true refl
 
-pub returns-then-periods-eq0 : goal.returns-then-periods-eq0
+pub returns : goal.returns
 unfolding whole_periods
-returns-then-periods-eq0 c = rw c.if-whole.false (omega arith)
-
-pub returns-else-periods-eq0 : goal.returns-else-periods-eq0
-unfolding whole_periods
-returns-else-periods-eq0 c = rw c.if-whole.false (omega arith)
+returns c = rw c.if-whole.false (omega arith)

@@ -1,4 +1,3 @@
-use Prim.Native.Nat.{◌-◌, ◌≤◌}
 use Rattle.row.specs.Row.{table_of}
 use Rattle.charge.specs.Links.{NextOther}
 use Rattle.answers.specs.Work.{others_cell}
@@ -7,9 +6,5 @@ use Rattle.answers.proofs.links.link_others.Given as goal
 
 abbrev pub invariant-loop-i : goal.invariant-loop-i
 invariant-loop-i l =
-    (l.i ≤ l.initial.i)
-    × (SameTo others_cell l.initial.work l.work
-    × (OthersFrom (table_of l.initial.work) l.s.u l.s.a l.i l.work × NextOther (table_of l.initial.work) l.s.u l.s.a l.i l.next))
-
-abbrev pub decreases-loop-i : goal.decreases-loop-i
-decreases-loop-i l = l.i
+    SameTo others_cell l.initial.work l.work
+    × (OthersFrom (table_of l.initial.work) l.s.u l.s.a l.i l.work × NextOther (table_of l.initial.work) l.s.u l.s.a l.i l.next)

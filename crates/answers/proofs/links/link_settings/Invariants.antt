@@ -1,4 +1,4 @@
-use Prim.Native.Nat.{◌-◌, ◌*◌, ◌≤◌}
+use Prim.Native.Nat.{◌*◌}
 use Rattle.row.specs.Row.{table_of}
 use Rattle.table.specs.Limits.{modes_most}
 use Rattle.charge.specs.Links.{NextSetting}
@@ -8,9 +8,5 @@ use Rattle.answers.proofs.links.link_settings.Given as goal
 
 abbrev pub invariant-loop-k : goal.invariant-loop-k
 invariant-loop-k l =
-    (l.k ≤ l.initial.k)
-    × (SameTo settings_cell l.initial.work l.work
-    × (LinkedFrom (table_of l.initial.work) l.s.u l.s.a l.k l.work × NextSetting (table_of l.initial.work) l.s.u l.s.a (modes_most * l.k) l.next))
-
-abbrev pub decreases-loop-k : goal.decreases-loop-k
-decreases-loop-k l = l.k
+    SameTo settings_cell l.initial.work l.work
+    × (LinkedFrom (table_of l.initial.work) l.s.u l.s.a l.k l.work × NextSetting (table_of l.initial.work) l.s.u l.s.a (modes_most * l.k) l.next)

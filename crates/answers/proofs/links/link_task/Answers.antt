@@ -23,19 +23,6 @@ use Rattle.answers.specs.declared.charges.Subject.{Subject}
 use Rattle.answers.proofs.links.link_task.Goals as goal
 use Rattle.answers.proofs.links.link_task.Goals.{then-is_charged, else-is_charged}
 
-pub owner-i-requires : goal.owner-i-requires
-owner-i-requires c = record { row_of_table = c.requires.lent.table; k_bound = c.requires.k_bound }
-
-pub before-requires : goal.before-requires
-before-requires c = record { row_of_table = c.requires.lent.table; i_bound = c.owner-i.ensures.is_task.owner }
-
-pub overflow_sub-c : goal.overflow_sub-c
-overflow_sub-c c = omega (arith, c.before-2.ensures, c.owner-i.ensures.numbered)
-
-pub modes-m-requires : goal.modes-m-requires
-modes-m-requires c =
-    let o = c in record { row_of_table = o.requires.lent.table; i_bound = o.owner-i.ensures.is_task.owner }
-
 -- the task, and what is known once its modes are read
 record Here (old : List ℕ) (s : Subject) (k i first many : ℕ) : Type 0 where
   lent : Lent old
@@ -73,156 +60,148 @@ module _ {old : List ℕ} {s : Subject} {k i first many : ℕ} (h : Here old s k
     begun-table : table_of begun ≡ table_of old
     begun-table = (leaves begun (same_refl settings_cell begun)).1.1
 
-pub overflow_mul-work : goal.overflow_mul-work
-overflow_mul-work y =
-    let h : Here y.args.work.now y.args.s y.args.k y.owner-i.result y.before-2.result y.modes-m.result =
-    record { lent = y.requires.lent; weighs = y.requires.weighs; inside = y.requires.k_bound; owned = y.owner-i.ensures; first_is = y.before-2.ensures; many_is = y.modes-m.ensures } in
-    omega (arith, small h)
-
 pub overflow_add-work : goal.overflow_add-work
-overflow_add-work y =
-    let h : Here y.args.work.now y.args.s y.args.k y.owner-i.result y.before-2.result y.modes-m.result =
-    record { lent = y.requires.lent; weighs = y.requires.weighs; inside = y.requires.k_bound; owned = y.owner-i.ensures; first_is = y.before-2.ensures; many_is = y.modes-m.ensures } in
-    omega (arith, small h)
+overflow_add-work c = omega (arith, modes-few c.requires.lent.table.kept c.owner-i.ensures.is_task.owner)
 
 pub overflow_add-work-2 : goal.overflow_add-work-2
-overflow_add-work-2 y =
-    let h : Here y.args.work.now y.args.s y.args.k y.owner-i.result y.before-2.result y.modes-m.result =
-    record { lent = y.requires.lent; weighs = y.requires.weighs; inside = y.requires.k_bound; owned = y.owner-i.ensures; first_is = y.before-2.ensures; many_is = y.modes-m.ensures } in
-    omega (arith, small h)
+overflow_add-work-2 c = omega (arith, modes-few c.requires.lent.table.kept c.owner-i.ensures.is_task.owner)
 
 pub offset_bounds-work-k : goal.offset_bounds-work-k
-offset_bounds-work-k y =
-    let h : Here y.args.work.now y.args.s y.args.k y.owner-i.result y.before-2.result y.modes-m.result =
-    record { lent = y.requires.lent; weighs = y.requires.weighs; inside = y.requires.k_bound; owned = y.owner-i.ensures; first_is = y.before-2.ensures; many_is = y.modes-m.ensures } in
-    omega (arith, small h)
+offset_bounds-work-k c = omega (arith, modes-few c.requires.lent.table.kept c.owner-i.ensures.is_task.owner)
 
 pub bounds-work-k : goal.bounds-work-k
-bounds-work-k y =
-    let h : Here y.args.work.now y.args.s y.args.k y.owner-i.result y.before-2.result y.modes-m.result =
-    record { lent = y.requires.lent; weighs = y.requires.weighs; inside = y.requires.k_bound; owned = y.owner-i.ensures; first_is = y.before-2.ensures; many_is = y.modes-m.ensures } in
-    omega (arith, small h)
-
-pub loop-m-init : goal.loop-m-init
-loop-m-init y =
-    let h : Here y.args.work.now y.args.s y.args.k y.owner-i.result y.before-2.result y.modes-m.result =
-    record { lent = y.requires.lent; weighs = y.requires.weighs; inside = y.requires.k_bound; owned = y.owner-i.ensures; first_is = y.before-2.ensures; many_is = y.modes-m.ensures } in
-    let lent = y.requires.lent in
-    let next = y.requires.next_setting in
-    let linked = y.requires.linked_from in
-    let tab = table_of y.args.work.now in
-    let after : NextSetting tab y.args.s.u y.args.s.a (modes_most * y.args.k + y.modes-m.result) y.args.after =
-    subst (λ (m : ℕ). NextSetting tab y.args.s.u y.args.s.a (modes_most * y.args.k + m) y.args.after) (sym y.modes-m.ensures)
-    (setting-behind lent.table.kept y.args.s.u y.args.s.a (place h).0 (place h).1 next) in (
-      omega arith,
-      (
-        same_refl settings_cell (begun h y.args.after),
-        subst (λ (t : Table). LinksFrom t y.args.s.u y.args.s.a y.args.k y.owner-i.result y.modes-m.result y.args.after (begun h y.args.after)) (sym (begun-table h y.args.after))
-            (links-put tab y.args.s.u y.args.s.a (small h).0 (small h).1 lent.size linked (λ m from l. absurd (omega (arith, y.modes-m.ensures))) after),
-      ),
-    )
-
-pub is_charged-requires : goal.is_charged-requires
-is_charged-requires d =
-    let l = d in
-    let y = l in
-    let h : Here y.args.work.now y.args.s y.args.k y.owner-i.result y.before-2.result y.modes-m.result =
-    record { lent = y.requires.lent; weighs = y.requires.weighs; inside = y.requires.k_bound; owned = y.owner-i.ensures; first_is = y.before-2.ensures; many_is = y.modes-m.ensures } in
-    let (lent, (weighs, e)) = leaves h y.args.after l.loop-m.work l.loop-m.invariant.1.0 in record { lent = lent; weighs = weighs; task = subst (λ (t : Table). IsTask t y.owner-i.result (y.args.k - y.before-2.result)) (sym e) (place h).0; m_bound = omega (arith, l.loop-m.invariant.0, y.modes-m.ensures, ap (λ (t : Table). modes_in t y.owner-i.result) e) }
-
-pub overflow_mul-next : goal.overflow_mul-next
-overflow_mul-next y =
-    let h : Here y.args.work.now y.args.s y.args.k y.owner-i.result y.before-2.result y.modes-m.result =
-    record { lent = y.requires.lent; weighs = y.requires.weighs; inside = y.requires.k_bound; owned = y.owner-i.ensures; first_is = y.before-2.ensures; many_is = y.modes-m.ensures } in
-    omega (arith, small h)
+bounds-work-k c = omega (arith, modes-few c.requires.lent.table.kept c.owner-i.ensures.is_task.owner)
 
 pub overflow_add-next : goal.overflow_add-next
-overflow_add-next y =
-    let h : Here y.args.work.now y.args.s y.args.k y.owner-i.result y.before-2.result y.modes-m.result =
-    record { lent = y.requires.lent; weighs = y.requires.weighs; inside = y.requires.k_bound; owned = y.owner-i.ensures; first_is = y.before-2.ensures; many_is = y.modes-m.ensures } in
-    omega (arith, small h)
+overflow_add-next c = omega (arith, modes-few c.requires.lent.table.kept c.owner-i.ensures.is_task.owner)
 
 pub overflow_cast-next : goal.overflow_cast-next
-overflow_cast-next y =
-    let h : Here y.args.work.now y.args.s y.args.k y.owner-i.result y.before-2.result y.modes-m.result =
-    record { lent = y.requires.lent; weighs = y.requires.weighs; inside = y.requires.k_bound; owned = y.owner-i.ensures; first_is = y.before-2.ensures; many_is = y.modes-m.ensures } in
-    omega (arith, small h)
-
-pub overflow_mul-work-in-loop-m : goal.overflow_mul-work-in-loop-m
-overflow_mul-work-in-loop-m y =
-    let h : Here y.args.work.now y.args.s y.args.k y.owner-i.result y.before-2.result y.modes-m.result =
-    record { lent = y.requires.lent; weighs = y.requires.weighs; inside = y.requires.k_bound; owned = y.owner-i.ensures; first_is = y.before-2.ensures; many_is = y.modes-m.ensures } in
-    omega (arith, small h)
+overflow_cast-next c = omega (arith, modes-few c.requires.lent.table.kept c.owner-i.ensures.is_task.owner)
 
 pub overflow_add-work-in-loop-m : goal.overflow_add-work-in-loop-m
-overflow_add-work-in-loop-m y =
-    let h : Here y.args.work.now y.args.s y.args.k y.owner-i.result y.before-2.result y.modes-m.result =
-    record { lent = y.requires.lent; weighs = y.requires.weighs; inside = y.requires.k_bound; owned = y.owner-i.ensures; first_is = y.before-2.ensures; many_is = y.modes-m.ensures } in
-    omega (arith, small h)
+overflow_add-work-in-loop-m c = omega (arith, modes-few c.requires.lent.table.kept c.owner-i.ensures.is_task.owner)
 
 pub overflow_add-work-in-loop-m-2 : goal.overflow_add-work-in-loop-m-2
-overflow_add-work-in-loop-m-2 y =
-    let h : Here y.args.work.now y.args.s y.args.k y.owner-i.result y.before-2.result y.modes-m.result =
-    record { lent = y.requires.lent; weighs = y.requires.weighs; inside = y.requires.k_bound; owned = y.owner-i.ensures; first_is = y.before-2.ensures; many_is = y.modes-m.ensures } in
-    omega (arith, small h)
+overflow_add-work-in-loop-m-2 c = omega (arith, modes-few c.requires.lent.table.kept c.owner-i.ensures.is_task.owner)
 
 pub offset_bounds-work-k-in-loop-m : goal.offset_bounds-work-k-in-loop-m
-offset_bounds-work-k-in-loop-m y =
-    let h : Here y.args.work.now y.args.s y.args.k y.owner-i.result y.before-2.result y.modes-m.result =
-    record { lent = y.requires.lent; weighs = y.requires.weighs; inside = y.requires.k_bound; owned = y.owner-i.ensures; first_is = y.before-2.ensures; many_is = y.modes-m.ensures } in
-    omega (arith, small h)
+offset_bounds-work-k-in-loop-m c = omega (arith, modes-few c.requires.lent.table.kept c.owner-i.ensures.is_task.owner)
 
 pub bounds-work-k-in-loop-m : goal.bounds-work-k-in-loop-m
-bounds-work-k-in-loop-m y =
-    let h : Here y.args.work.now y.args.s y.args.k y.owner-i.result y.before-2.result y.modes-m.result =
-    record { lent = y.requires.lent; weighs = y.requires.weighs; inside = y.requires.k_bound; owned = y.owner-i.ensures; first_is = y.before-2.ensures; many_is = y.modes-m.ensures } in
-    omega (arith, small h)
+bounds-work-k-in-loop-m c = omega (arith, modes-few c.requires.lent.table.kept c.owner-i.ensures.is_task.owner)
+
+pub overflow_sub-c : goal.overflow_sub-c
+overflow_sub-c c = omega (arith, c.before-2.ensures, c.owner-i.ensures.numbered)
+
+pub loop-m-init : goal.loop-m-init
+loop-m-init c =
+    let h : Here c.args.work.now c.args.s c.args.k c.owner-i.result c.before-2.result c.modes-modes.result =
+    record {
+      lent = c.requires.lent;
+      weighs = c.requires.weighs;
+      inside = c.requires.k_bound;
+      owned = c.owner-i.ensures;
+      first_is = c.before-2.ensures;
+      many_is = c.modes-modes.ensures;
+    } in
+    let x = c.args in
+    let tab = table_of x.work.now in
+    let after : NextSetting tab x.s.u x.s.a (modes_most * x.k + c.modes-modes.result) x.after =
+    subst (λ (m : ℕ). NextSetting tab x.s.u x.s.a (modes_most * x.k + m) x.after) (sym c.modes-modes.ensures)
+    (setting-behind c.requires.lent.table.kept x.s.u x.s.a (place h).0 (place h).1 c.requires.next_setting) in (
+      same_refl settings_cell (begun h x.after),
+      subst (λ (t : Table). LinksFrom t x.s.u x.s.a x.k c.owner-i.result c.modes-modes.result x.after (begun h x.after)) (sym (begun-table h x.after))
+          (links-put tab x.s.u x.s.a (small h).0 (small h).1 c.requires.lent.size c.requires.linked_from (λ m from l. absurd (omega (arith, c.modes-modes.ensures))) after),
+    )
+
+pub invariant_of-cells : goal.invariant_of-cells
+invariant_of-cells c =
+    let h : Here c.args.work.now c.args.s c.args.k c.owner-i.result c.before-2.result c.modes-modes.result =
+    record {
+      lent = c.requires.lent;
+      weighs = c.requires.weighs;
+      inside = c.requires.k_bound;
+      owned = c.owner-i.ensures;
+      first_is = c.before-2.ensures;
+      many_is = c.modes-modes.ensures;
+    } in
+    let (lent, (weighs, e)) = leaves h c.args.after c.loop-m.work c.loop-m.invariant.0 in
+    (lent, weighs)
+
+pub is_charged-requires : goal.is_charged-requires
+is_charged-requires c =
+    let h : Here c.args.work.now c.args.s c.args.k c.owner-i.result c.before-2.result c.modes-modes.result =
+    record {
+      lent = c.requires.lent;
+      weighs = c.requires.weighs;
+      inside = c.requires.k_bound;
+      owned = c.owner-i.ensures;
+      first_is = c.before-2.ensures;
+      many_is = c.modes-modes.ensures;
+    } in
+    let e = (leaves h c.args.after c.loop-m.work c.loop-m.invariant.0).1.1 in
+    record { task = rw e (place h).0; m_bound = rw e (omega (arith, c.modes-modes.ensures)) }
 
 pub loop-m-preserved : goal.loop-m-preserved
-loop-m-preserved j =
-    let l = j in
-    let y = l in
-    let h : Here y.args.work.now y.args.s y.args.k y.owner-i.result y.before-2.result y.modes-m.result =
-    record { lent = y.requires.lent; weighs = y.requires.weighs; inside = y.requires.k_bound; owned = y.owner-i.ensures; first_is = y.before-2.ensures; many_is = y.modes-m.ensures } in
-    let n = l.loop-m.m - 1 in
-    let tab = table_of (begun h y.args.after) in
-    let (most, (same, links)) = l.loop-m.invariant in
-    let (lent, (weighs, e)) = leaves h y.args.after l.loop-m.work same in
-    let kept = (leaves h y.args.after (begun h y.args.after) (same_refl settings_cell (begun h y.args.after))).0.table.kept in
-    let here = e ∙ sym (begun-table h y.args.after) in
-    let is : IsTask tab y.owner-i.result (y.args.k - y.before-2.result) = subst (λ (t : Table). IsTask t y.owner-i.result (y.args.k - y.before-2.result)) (sym (begun-table h y.args.after)) (place h).0 in
-    let numbered : number tab y.owner-i.result (y.args.k - y.before-2.result) ≡ y.args.k = ap (λ (t : Table). number t y.owner-i.result (y.args.k - y.before-2.result)) (begun-table h y.args.after) ∙ (place h).1 in
-    let mode : n < modes_in tab y.owner-i.result = omega (arith, y.modes-m.ensures, ap (λ (t : Table). modes_in t y.owner-i.result) (begun-table h y.args.after)) in
-    let back : l.loop-m.m ≡ n + 1 = omega arith in
-    let before = subst (λ (m : ℕ). LinksFrom tab y.args.s.u y.args.s.a y.args.k y.owner-i.result m l.loop-m.next l.loop-m.work) back links in
-    let charged = j.is_charged.ensures.not_weight in let spare = j.is_charged.ensures.spare in
-    let now : NextSetting tab y.args.s.u y.args.s.a (modes_most * y.args.k + n) j.if-is_charged.next =
-    elim j.if-is_charged.branch [
+loop-m-preserved c =
+    let h : Here c.args.work.now c.args.s c.args.k c.owner-i.result c.before-2.result c.modes-modes.result =
+    record {
+      lent = c.requires.lent;
+      weighs = c.requires.weighs;
+      inside = c.requires.k_bound;
+      owned = c.owner-i.ensures;
+      first_is = c.before-2.ensures;
+      many_is = c.modes-modes.ensures;
+    } in
+    let x = c.args in
+    let n = c.loop-m.m - 1 in
+    let i = c.owner-i.result in
+    let d = x.k - c.before-2.result in
+    let tab = table_of (begun h x.after) in
+    let (same, links) = c.loop-m.invariant in
+    let (lent, (weighs, e)) = leaves h x.after c.loop-m.work same in
+    let kept = (leaves h x.after (begun h x.after) (same_refl settings_cell (begun h x.after))).0.table.kept in
+    let here = e ∙ sym (begun-table h x.after) in
+    let is : IsTask tab i d = rw (begun-table h x.after) (place h).0 in
+    let numbered : number tab i d ≡ x.k = rw (begun-table h x.after) (place h).1 in
+    let mode : n < modes_in tab i = rw (begun-table h x.after) (omega (arith, c.modes-modes.ensures)) in
+    let back : c.loop-m.m ≡ n + 1 = omega arith in
+    let before = subst (λ (m : ℕ). LinksFrom tab x.s.u x.s.a x.k i m c.loop-m.next c.loop-m.work) back links in
+    let now : NextSetting tab x.s.u x.s.a (modes_most * x.k + n) c.if-is_charged.next =
+    elim c.if-is_charged.branch [
       | then-is_charged w ↦ rw w.next-is
-          (setting-charged kept y.args.s.u y.args.s.a is numbered mode
-          (subst (λ (t : Table). ¬ (weight t y.args.s.u y.args.s.a y.owner-i.result n (y.args.k - y.before-2.result) ≡ 0)) here (charged w.if-is_charged.true)))
+          (setting-charged kept x.s.u x.s.a is numbered mode
+          (subst (λ (t : Table). ¬ (weight t x.s.u x.s.a i n d ≡ 0)) here (c.is_charged.ensures.not_weight w.if-is_charged.true)))
       | else-is_charged w ↦ rw w.next-is
-          (setting-spare kept y.args.s.u y.args.s.a is numbered mode
-          (subst (λ (t : Table). Spare t y.args.s.u y.args.s.a y.owner-i.result n (y.args.k - y.before-2.result)) here (spare w.if-is_charged.false))
+          (setting-spare kept x.s.u x.s.a is numbered mode
+          (subst (λ (t : Table). Spare t x.s.u x.s.a i n d) here (c.is_charged.ensures.spare w.if-is_charged.false))
           before.next)
     ] in (
-      omega arith,
-      (
-        same_set settings_cell (begun h y.args.after) l.loop-m.work (settings_cell + (modes_most * y.args.k + n)) j.if-is_charged.next (omega arith) same,
-        links-put tab y.args.s.u y.args.s.a (small h).0 (omega (arith, (small h).1)) lent.size before.done before.settings now,
-      ),
+      same_set settings_cell (begun h x.after) c.loop-m.work (settings_cell + (modes_most * x.k + n)) c.if-is_charged.next (omega arith) same,
+      links-put tab x.s.u x.s.a (small h).0 (omega (arith, (small h).1)) lent.size before.done before.settings now,
     )
 
 pub returns : goal.returns
-returns d =
-    let l = d in
-    let y = l in
-    let h : Here y.args.work.now y.args.s y.args.k y.owner-i.result y.before-2.result y.modes-m.result =
-    record { lent = y.requires.lent; weighs = y.requires.weighs; inside = y.requires.k_bound; owned = y.owner-i.ensures; first_is = y.before-2.ensures; many_is = y.modes-m.ensures } in
-    let tab = table_of y.args.work.now in
-    let none : l.loop-m.m ≡ 0 = omega (arith, d.loop-m-test.false) in
-    let first : modes_most * y.args.k + 0 ≡ modes_most * y.args.k = omega arith in
-    let (most, (same, links)) = l.loop-m.invariant in
+returns c =
+    let h : Here c.args.work.now c.args.s c.args.k c.owner-i.result c.before-2.result c.modes-modes.result =
+    record {
+      lent = c.requires.lent;
+      weighs = c.requires.weighs;
+      inside = c.requires.k_bound;
+      owned = c.owner-i.ensures;
+      first_is = c.before-2.ensures;
+      many_is = c.modes-modes.ensures;
+    } in
+    let x = c.args in
+    let tab = table_of x.work.now in
+    let none : c.loop-m.m ≡ 0 = omega arith in
+    let first : modes_most * x.k + 0 ≡ modes_most * x.k = omega arith in
+    let (same, links) = c.loop-m.invariant in
     let all =
-    subst (λ (m : ℕ). LinksFrom tab y.args.s.u y.args.s.a y.args.k y.owner-i.result m l.loop-m.next l.loop-m.work) none
-    (subst (λ (t : Table). LinksFrom t y.args.s.u y.args.s.a y.args.k y.owner-i.result l.loop-m.m l.loop-m.next l.loop-m.work) (begun-table h y.args.after) links) in record { next_setting_2 = subst (λ (z : ℕ). NextSetting tab y.args.s.u y.args.s.a z l.loop-m.next) first all.next; linked_from_2 = links-all tab y.args.s.u y.args.s.a (place h).0 (place h).1 all; same_to = same-trans (begun-same h y.args.after) same }
+    subst (λ (m : ℕ). LinksFrom tab x.s.u x.s.a x.k c.owner-i.result m c.loop-m.next c.loop-m.work) none
+    (subst (λ (t : Table). LinksFrom t x.s.u x.s.a x.k c.owner-i.result c.loop-m.m c.loop-m.next c.loop-m.work) (begun-table h x.after) links) in
+    record {
+      next_setting_2 = subst (λ (z : ℕ). NextSetting tab x.s.u x.s.a z c.loop-m.next) first all.next;
+      linked_from_2 = links-all tab x.s.u x.s.a (place h).0 (place h).1 all;
+      same_to = same-trans (begun-same h x.after) same;
+    }

@@ -1,4 +1,3 @@
-use Prim.Native.Nat.{◌-◌, ◌≤◌}
 use Rattle.row.specs.Row.{table_of}
 use Rattle.answers.specs.Work.{settings_cell}
 use Rattle.answers.specs.Parts.{SameTo}
@@ -6,8 +5,4 @@ use Rattle.answers.proofs.Linking.{LinksFrom}
 use Rattle.answers.proofs.links.link_task.Given as goal
 
 abbrev pub invariant-loop-m : goal.invariant-loop-m
-invariant-loop-m l =
-    (l.m ≤ l.initial.m) × (SameTo settings_cell l.initial.work l.work × LinksFrom (table_of l.initial.work) l.s.u l.s.a l.k l.i l.m l.next l.work)
-
-abbrev pub decreases-loop-m : goal.decreases-loop-m
-decreases-loop-m l = l.m
+invariant-loop-m l = SameTo settings_cell l.initial.work l.work × LinksFrom (table_of l.initial.work) l.s.u l.s.a l.k l.i l.m l.next l.work

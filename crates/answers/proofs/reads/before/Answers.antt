@@ -5,4 +5,4 @@ use Rattle.answers.proofs.reads.before.Goals as goal
 
 pub returns : goal.returns
 returns c =
-    c.index.ensures ∙ c.first.ensures ∙ read_first c.requires.row_of_table c.requires.i_bound
+    c.first.ensures ∙ read_first c.requires.row_of_table c.requires.i_bound

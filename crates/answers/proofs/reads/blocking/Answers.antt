@@ -6,4 +6,4 @@ use Rattle.answers.proofs.reads.blocking.Goals as goal
 pub returns : goal.returns
 returns c =
     let n = c in
-    c.wide.ensures ∙ c.blocking.ensures ∙ rw n.number.ensures (read-blocking n.requires.row_of_table n.requires.task)
+    c.from.ensures ∙ c.blocking.ensures ∙ rw n.number.ensures (read-blocking n.requires.row_of_table n.requires.task)

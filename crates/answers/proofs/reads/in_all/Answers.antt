@@ -4,4 +4,4 @@ use Rattle.row.proofs.Fields.{in-all-cell}
 use Rattle.answers.proofs.reads.in_all.Goals as goal
 
 pub returns : goal.returns
-returns c = c.index.ensures ∙ c.in_all.ensures ∙ in-all-cell c.requires
+returns c = c.in_all.ensures ∙ in-all-cell c.requires

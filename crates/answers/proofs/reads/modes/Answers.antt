@@ -5,4 +5,4 @@ use Rattle.answers.proofs.reads.modes.Goals as goal
 
 pub returns : goal.returns
 returns c =
-    c.index.ensures ∙ c.modes.ensures ∙ read-modes c.requires.row_of_table c.requires.i_bound
+    c.modes.ensures ∙ read-modes c.requires.row_of_table c.requires.i_bound

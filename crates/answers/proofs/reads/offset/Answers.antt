@@ -6,4 +6,4 @@ use Rattle.answers.proofs.reads.offset.Goals as goal
 pub returns : goal.returns
 returns c =
     let n = c in
-    c.wide.ensures ∙ c.offset.ensures ∙ rw n.number.ensures (read-offset n.requires.row_of_table n.requires.task)
+    c.from.ensures ∙ c.offset.ensures ∙ rw n.number.ensures (read-offset n.requires.row_of_table n.requires.task)

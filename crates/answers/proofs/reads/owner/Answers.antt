@@ -13,9 +13,8 @@ returns c =
     let s = c in
     let row = s.args.work.now in
     let p = place (table_of row) s.args.k s.requires.k_bound in
-    let e : c.index.result ≡ p.u =
-    c.index.ensures
-    ∙ c.owner.ensures
+    let e : c.owner.result ≡ p.u =
+    c.owner.ensures
     ∙ ap (λ (n : ℕ). body_cell row n owner_cell) (sym p.numbered)
     ∙ read-owner s.requires.row_of_table p.is_task in
     rw e (record { place = p.j; is_task = p.is_task; numbered = p.numbered })

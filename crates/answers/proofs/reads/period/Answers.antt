@@ -5,4 +5,4 @@ use Rattle.answers.proofs.reads.period.Goals as goal
 
 pub returns : goal.returns
 returns c =
-    c.wide.ensures ∙ c.period.ensures ∙ read-period c.requires.row_of_table c.requires.i_bound
+    c.from.ensures ∙ c.period.ensures ∙ read-period c.requires.row_of_table c.requires.i_bound

@@ -5,4 +5,4 @@ use Rattle.answers.proofs.reads.tasks.Goals as goal
 
 pub returns : goal.returns
 returns c =
-    c.index.ensures ∙ c.tasks.ensures ∙ read-tasks c.requires.row_of_table c.requires.i_bound
+    c.tasks.ensures ∙ read-tasks c.requires.row_of_table c.requires.i_bound

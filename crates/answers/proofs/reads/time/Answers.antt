@@ -6,4 +6,4 @@ use Rattle.answers.proofs.reads.time.Goals as goal
 pub returns : goal.returns
 returns c =
     let n = c in
-    c.wide.ensures ∙ c.time.ensures ∙ rw n.number.ensures (read-time n.requires.row_of_table n.requires.task n.requires.m_bound)
+    c.from.ensures ∙ c.time.ensures ∙ rw n.number.ensures (read-time n.requires.row_of_table n.requires.task n.requires.m_bound)

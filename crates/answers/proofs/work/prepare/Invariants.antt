@@ -1,10 +1,6 @@
-use Prim.Native.Nat.{◌-◌, ◌≤◌}
 use Rattle.row.specs.Row.{row_cells, table_of}
 use Rattle.answers.specs.Parts.{SameTo, Phased}
 use Rattle.answers.proofs.work.prepare.Given as goal
 
 abbrev pub invariant-loop-k : goal.invariant-loop-k
-invariant-loop-k l = (l.k ≤ l.count) × (Phased (table_of l.initial.work) l.k l.work × SameTo row_cells l.initial.work l.work)
-
-abbrev pub decreases-loop-k : goal.decreases-loop-k
-decreases-loop-k l = l.count - l.k
+invariant-loop-k l = Phased (table_of l.initial.work) l.k l.work × SameTo row_cells l.initial.work l.work

@@ -1,4 +1,4 @@
-use Prim.Native.Nat.{◌-◌, ◌*◌, ◌≤◌}
+use Prim.Native.Nat.{◌*◌}
 use Rattle.row.specs.Row.{table_of}
 use Rattle.table.specs.Limits.{modes_most}
 use Rattle.answers.specs.Work.{weights_cell}
@@ -6,8 +6,4 @@ use Rattle.answers.specs.Parts.{SameTo, WeighedTo}
 use Rattle.answers.proofs.work.weigh.Given as goal
 
 abbrev pub invariant-loop-i : goal.invariant-loop-i
-invariant-loop-i l =
-    (l.i ≤ l.count) × (SameTo weights_cell l.initial.work l.work × WeighedTo (table_of l.initial.work) l.s.u l.s.a (modes_most * l.i) l.work)
-
-abbrev pub decreases-loop-i : goal.decreases-loop-i
-decreases-loop-i l = l.count - l.i
+invariant-loop-i l = SameTo weights_cell l.initial.work l.work × WeighedTo (table_of l.initial.work) l.s.u l.s.a (modes_most * l.i) l.work
