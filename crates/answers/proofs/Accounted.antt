@@ -1,4 +1,5 @@
 -- What is told of one task by one walk, of an answer that is explained.
+use Rattle.std.specs.Prelude.{Some, None}
 use mathlib.Core.Path.{◌≡◌, sym, ap₂, ◌∙◌, subst}
 use mathlib.Core.List.{List}
 use mathlib.Core.Bool.{false}
@@ -20,7 +21,6 @@ use Rattle.told.specs.Answered.{meant, cells_meant}
 use Rattle.told.specs.Told.{Owed}
 use Rattle.told.proofs.Told.{owed}
 use Rattle.parts.specs.Parts.{NoBound}
-use Rattle.account.specs.declared.Account.TheVariants as account
 use Rattle.account.specs.Account.{laid_for, Lays, AccountFor}
 use Rattle.account.proofs.Lays.{lays}
 use Rattle.answers.specs.declared.charges.Split.{Split}
@@ -38,14 +38,14 @@ module _ {tab : Table} (kept : Kept tab) {u a : ℕ} (is_task : IsTask tab u a) 
   owed-cells x e due is = subst (Owed tab u a budget) (sym (is ∙ ap₂ cells due e)) (owed kept is_task budget)
 
   module _ {before : List ℕ} (x : TaskAnswer) {c : TaskCells} {D : ℕ} (due : D ≡ deadline tab u a) (is : cells_meant c ≡ cells D (meant x)) (told : meant x ≡ answer imposed tab u a budget) where
-    pub account-unbounded : NoBound (meant x) → AccountFor budget before tab u a (account.Unbounded c, before)
+    pub account-unbounded : NoBound (meant x) → AccountFor budget before tab u a (record { cells = c; parts = None }, before)
     account-unbounded none = AccountFor.unbounded (owed-cells x told due is) (right kept is_task told) none
 
     pub account-bounded :
         {b : Bounded} {after : List ℕ}
         → Gives tab u a (meant x) b
         → after ≡ laid_for tab u a (record { mode = b.by.mode; candidate = b.by.candidate }) b.parts.completion before
-        → AccountFor budget before tab u a (account.Bounded c b.parts, after)
+        → AccountFor budget before tab u a (record { cells = c; parts = Some b.parts }, after)
     unfolding source_meant
     account-bounded {b} gives laid =
         AccountFor.bounded (owed-cells x told due is) (right kept is_task (sym gives.is ∙ told)) gives.made

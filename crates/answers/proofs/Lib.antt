@@ -13,3 +13,4 @@ pub mod Linking
 pub mod Most
 pub mod Pushing
 pub mod Accounted
+pub mod Choosing

@@ -1,5 +1,6 @@
 -- Who pushed a task, in the code's own types: where an answer is no bound, what is told of an answer that is explained, why the parts
 -- of a bound fit their cells, and who charges most.
+use Rattle.std.specs.Prelude.{Some}
 use mathlib.Core.Path.{◌≡◌, refl, sym, ap, ap₂, ◌∙◌, subst}
 use lib.Dec.{T}
 use lib.IntN.{ℤ, pos, ◌+ℤ◌, ◌-ℤ◌, ◌*ℤ◌}
@@ -27,7 +28,6 @@ use Rattle.told.specs.declared.TaskAnswer.TheVariants.{Bound, Overload, Beyond, 
 use Rattle.told.specs.Answered.{meant}
 use Rattle.told.specs.declared.Named.{Named}
 use Rattle.parts.specs.Parts.{NoBound, MadeFor}
-use Rattle.parts.specs.declared.Made.TheVariants as made
 use Rattle.answers.specs.declared.walk.Source as source
 use Rattle.answers.specs.declared.instant.Instant.{Instant}
 use Rattle.answers.specs.declared.pushed.Bounded.{Bounded}
@@ -52,7 +52,7 @@ module _ {tab : Table} (kept : Kept tab) {u a : ℕ} (is_task : IsTask tab u a) 
   right e = subst (Answers tab u a budget) (sym e) (answers kept is_task budget)
 
   -- what its bound is made of
-  pub made-bounded : {x : Answer} {b : Bounded} → x ≡ answer imposed tab u a budget → Gives tab u a x b → MadeFor budget tab u a (made.Of b.parts)
+  pub made-bounded : {x : Answer} {b : Bounded} → x ≡ answer imposed tab u a budget → Gives tab u a x b → MadeFor budget tab u a (Some b.parts)
   made-bounded e gives = MadeFor.bounded (right (sym gives.is ∙ e)) gives.made
 
 module _ {tab : Table} {u a R : ℕ} {x : Source} (by : BoundBy imposed tab u a R x) where

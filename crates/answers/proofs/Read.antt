@@ -4,8 +4,7 @@ use mathlib.Core.List.{List}
 use Prim.Native.Nat.{ℕ}
 use lib.Dec.{lit≤}
 use lib.ListN.{length, replicate, length-replicate}
-use Rattle.refusals.specs.declared.Answer.{Answer}
-use Rattle.refusals.specs.declared.Answer.TheVariants.{Accepted, Refused}
+use Rattle.refusals.specs.Answer.{Answer, accepted, refused}
 use Rattle.refusals.specs.declared.Refusal.{Refusal}
 use Rattle.format.specs.Fault.{image_fault, IsAccepted}
 use Rattle.format.specs.Said.{table_in}
@@ -23,10 +22,10 @@ read-fault image = front-fault image cleared (rw (length-replicate {A = ℕ} wor
 
 -- of what reading gave back
 module _ (image : List ℕ) {answer : Answer} (told : answer ≡ front_fault image cleared) where
-  pub read-refused : {r : Refusal} {at : ℕ} → answer ≡ Refused r at → image_fault image ≡ Refused r at
+  pub read-refused : {r : Refusal} {at : ℕ} → answer ≡ refused r at → image_fault image ≡ refused r at
   read-refused is = sym (read-fault image) ∙ sym told ∙ is
 
-  pub read-accepted : answer ≡ Accepted → IsAccepted image
+  pub read-accepted : answer ≡ accepted → IsAccepted image
   read-accepted is = sym (read-fault image) ∙ sym told ∙ is
 
 -- the work cells of an accepted image

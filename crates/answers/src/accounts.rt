@@ -1,9 +1,9 @@
 // All that is told of one task, by one walk: its cells, what its bound is made of, what each other transaction charges until the
 // completion, and how the tasks of its own transaction stand from the critical instant on.
-ghost use Rattle.std.specs.Prelude.{◌≡◌, length, ◌<◌};
+ghost use Rattle.std.specs.Prelude.{◌≡◌, length, OnErr, ◌<◌};
 ghost use Rattle.row.specs.Row.{table_of, RowOfTable};
 ghost use Rattle.table.specs.Table.{transactions, modes, tasks};
-ghost use Rattle.account.specs.Account.{charges_cell, shares_cell, charge_cells, share_cells, laid, share_of, charge_of, AccountFor, refused_with};
+ghost use Rattle.account.specs.Account.{charges_cell, shares_cell, charge_cells, share_cells, laid, share_of, charge_of, AccountFor, with_cells};
 ghost use Rattle.parts.specs.Parts.{OfTask};
 ghost use Rattle.answers.specs.Split.{moment, IsSetting};
 ghost use Rattle.answers.specs.Work.{work_cells, Lent, IsSubject};
@@ -15,7 +15,7 @@ use super::quantity::Ticks;
 use super::walk::Source;
 use super::{answers, charges, links, pushed, reads, work};
 use account::{Account, Share};
-use refusals::Refusal;
+use refusals::Fault;
 use row::Table;
 
 // How task j of the subject's transaction stands when candidate c sets the instant in mode m, and what it charges by t.
@@ -83,11 +83,17 @@ fn subject_account(
     let explained = pushed::explain(work, s, budget);
     let told = explained.answer.cells(deadline);
     match explained.bounded {
-        None => Account::Unbounded(told),
+        None => Account {
+            cells: told,
+            parts: None,
+        },
         Some(Bounded { by, parts }) => {
             put_charges(work, s, parts.completion, cells);
             put_shares(work, s, by, parts.completion, cells);
-            Account::Bounded(told, parts)
+            Account {
+                cells: told,
+                parts: Some(parts),
+            }
         }
     }
 }
@@ -98,15 +104,12 @@ pub(crate) fn account_from(
     task: usize,
     budget: u32,
     cells: &mut [u64; Account::CELLS],
-) -> Account
+) -> Result<Account, Fault>
     requires row_of_table { RowOfTable work.old }
     requires work_len { length work.old ≡ work_cells }
-    ensures { OfTask (refused_with cells.old) (AccountFor budget cells.old) task (table_of work.old) (result, cells.new) }
+    ensures told { OfTask (AccountFor budget cells.old) task (table_of work.old) (with_cells cells.new result) }
+    ensures stays { OnErr result (cells.new ≡ cells.old) }
 {
-    if task < reads::in_all(&*work) {
-        work::prepare(work);
-        let s = answers::subject(work, task);
-        return subject_account(&*work, s, budget, cells);
-    }
-    Account::Refused(Refusal::NoTask, 0)
+    let s = answers::chosen(work, task)?;
+    Ok(subject_account(&*work, s, budget, cells))
 }

@@ -1,16 +1,17 @@
 // A task's answer, and its cells.
-ghost use Rattle.std.specs.Prelude.{◌≡◌, ◌<◌, ◌≤◌, ◌^◌};
-ghost use Rattle.row.specs.Row.{table_of};
+ghost use Rattle.std.specs.Prelude.{◌≡◌, ◌<◌, ◌≤◌, ◌^◌, length};
+ghost use Rattle.row.specs.Row.{table_of, RowOfTable};
 ghost use Rattle.table.specs.Table.{IsTask, transactions};
 ghost use Rattle.table.specs.Number.{before, in_all};
 ghost use Rattle.periods.specs.Charge.{imposed};
 ghost use Rattle.analysis.specs.Answer.{named};
 ghost use Rattle.analysis.specs.Walk.{answer};
-ghost use Rattle.answers.specs.Parts.{IsSubjectAt};
+ghost use Rattle.answers.specs.Parts.{IsSubjectAt, Chooses};
 ghost use Rattle.answers.specs.Turn.{source_meant};
-ghost use Rattle.answers.specs.Work.{Lent, IsSubject};
+ghost use Rattle.answers.specs.Work.{work_cells, Lent, IsSubject};
 ghost use Rattle.told.specs.Answered.{named_meant, meant, cells_meant};
 ghost use Rattle.told.specs.Told.{OwedAt};
+ghost use Rattle.parts.specs.Parts.{OfTask};
 
 use super::chains::Stopped;
 use super::charges::Subject;
@@ -18,6 +19,7 @@ use super::layout::Work;
 use super::quantity::Jobs;
 use super::walk::{Source, Walk};
 use super::{links, overload, reads, work};
+use refusals::{Fault, Refusal};
 use row::Table;
 use told::{Named, TaskAnswer, TaskCells};
 
@@ -81,6 +83,22 @@ pub(crate) fn subject(work: &mut [u32; Work::CELLS], k: usize) -> Subject
     work::weigh(work, s);
     links::link(work, s);
     s
+}
+
+// The task of that number of the table that the work cells begin with, and then are its own; 13 where there is none.
+pub(crate) fn chosen(work: &mut [u32; Work::CELLS], task: usize) -> Result<Subject, Fault>
+    requires row_of_table { RowOfTable work.old }
+    requires work_len { length work.old ≡ work_cells }
+    ensures { OfTask (Chooses work.new) task (table_of work.old) result }
+{
+    if reads::in_all(&*work) <= task {
+        return Err(Fault {
+            refusal: Refusal::NoTask,
+            place: 0,
+        });
+    }
+    work::prepare(work);
+    Ok(subject(work, task))
 }
 
 // The cells of the task with number k.

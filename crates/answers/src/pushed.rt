@@ -6,8 +6,6 @@ ghost use Rattle.analysis.specs.Parts.{MadeOf};
 ghost use Rattle.analysis.specs.Who.{BoundBy};
 ghost use Rattle.charge.specs.Later.{later_of};
 ghost use Rattle.parts.specs.Parts.{parts_meant, OfTask, MadeFor, ChargedBy};
-ghost use Rattle.parts.specs.declared.Made.TheVariants as made;
-ghost use Rattle.parts.specs.declared.Part.TheVariants as part;
 ghost use Rattle.answers.specs.Explained.{Explains};
 ghost use Rattle.answers.specs.Turn.{source_meant};
 ghost use Rattle.answers.specs.Work.{work_cells, Lent, IsSubject};
@@ -19,8 +17,8 @@ use super::lent::Linked;
 use super::quantity::Ticks;
 use super::walk::Source;
 use super::{answers, charges, reads, work};
-use parts::{Charge, Made, Part, Parts};
-use refusals::Refusal;
+use parts::{Charge, Part, Parts};
+use refusals::Fault;
 use told::TaskAnswer;
 
 // The parts of a bound of the subject, by the job that gives it.
@@ -81,15 +79,13 @@ pub(crate) fn explain(work: &[u32; Work::CELLS], s: Subject, budget: u32) -> Exp
 }
 
 // What the subject's bound under a budget is made of, where it has one.
-fn made(work: &[u32; Work::CELLS], s: Subject, budget: u32) -> Made
+fn made(work: &[u32; Work::CELLS], s: Subject, budget: u32) -> Option<Parts>
     requires lent { Lent work.now }
     requires subject { IsSubject work.now s }
     ensures { MadeFor budget (table_of work.now) s.u s.a result }
 {
-    match explain(work, s, budget).bounded {
-        None => Made::NoBound,
-        Some(Bounded { parts, .. }) => Made::Of(parts),
-    }
+    let bounded = explain(work, s, budget).bounded?;
+    Some(bounded.parts)
 }
 
 // What transaction i charges the subject by t.
@@ -116,17 +112,17 @@ pub(crate) fn charged(work: &[u32; Work::CELLS], s: Subject, whole: bool, i: usi
 }
 
 // What the bound of one task of the table that the work cells begin with is made of.
-pub(crate) fn parts_from(work: &mut [u32; Work::CELLS], task: usize, budget: u32) -> Made
+pub(crate) fn parts_from(
+    work: &mut [u32; Work::CELLS],
+    task: usize,
+    budget: u32,
+) -> Result<Option<Parts>, Fault>
     requires row_of_table { RowOfTable work.old }
     requires work_len { length work.old ≡ work_cells }
-    ensures { OfTask made.Refused (MadeFor budget) task (table_of work.old) result }
+    ensures { OfTask (MadeFor budget) task (table_of work.old) result }
 {
-    if task < reads::in_all(&*work) {
-        work::prepare(work);
-        let s = answers::subject(work, task);
-        return made(&*work, s, budget);
-    }
-    Made::Refused(Refusal::NoTask, 0)
+    let s = answers::chosen(work, task)?;
+    Ok(made(&*work, s, budget))
 }
 
 // What one transaction charges one task of that table.
@@ -136,15 +132,11 @@ pub(crate) fn charge_from(
     transaction: usize,
     whole: bool,
     t: u32,
-) -> Part
+) -> Result<Part, Fault>
     requires row_of_table { RowOfTable work.old }
     requires work_len { length work.old ≡ work_cells }
-    ensures { OfTask part.Refused (ChargedBy (later_of whole) transaction t) task (table_of work.old) result }
+    ensures { OfTask (ChargedBy (later_of whole) transaction t) task (table_of work.old) result }
 {
-    if task < reads::in_all(&*work) {
-        work::prepare(work);
-        let s = answers::subject(work, task);
-        return charged(&*work, s, whole, transaction, t);
-    }
-    Part::Refused(Refusal::NoTask, 0)
+    let s = answers::chosen(work, task)?;
+    Ok(charged(&*work, s, whole, transaction, t))
 }

@@ -17,8 +17,8 @@ pub loop-k-preserved : goal.loop-k-preserved
 loop-k-preserved c =
     let tab = table_of c.prepare.new.work in
     let (written, (lent, same)) = c.loop-k.invariant in
-    let every : in_all tab ≡ c.in_all-count.result = ap in_all c.prepare.ensures.work_unchanged ∙ sym c.in_all-count.ensures in
-    let room = leb-true _ _ (sym c.have_room.ensures ∙ c.if-have_room.true) in (
+    let every : in_all tab ≡ c.in_all-tasks.result = ap in_all c.prepare.ensures.work_unchanged ∙ sym c.in_all-tasks.ensures in
+    let room = leb-true _ _ (sym c.if-not-have_room.ensures) in (
       c.put.ensures
           ∙ written_next tab c.args.budget c.args.cells.now (rw c.prepare.ensures.work_unchanged c.requires.row_of_table.kept) c.loop-k.k
           (cells_meant c.task_cells.result)
@@ -30,18 +30,18 @@ loop-k-preserved c =
       (c.task_cells.ensures.lent_2, c.task_cells.ensures.work_unchanged ∙ same),
     )
 
-pub returns-then-have_room : goal.returns-then-have_room
-returns-then-have_room c =
-    let tab = table_of c.args.work.now in
-    let room = leb-true _ _ (sym c.have_room.ensures ∙ c.if-have_room.true) in
-    let last : c.loop-k.k ≡ in_all tab = omega (arith, c.loop-k-test.false, c.loop-k.auto.k-end, c.in_all-count.ensures) in
-    rw c.in_all-count.ensures
-    (FillsFrom.done
-    (written_all tab c.args.budget c.args.cells.now c.requires.row_of_table.kept c.loop-k.cells
-    (omega (arith, room, c.in_all-count.ensures))
-    (rw (c.prepare.ensures.work_unchanged, last) at c.loop-k.invariant.0)))
-
 pub returns : goal.returns
 returns c =
-    let short : length c.args.cells.now < cells_of_task * c.in_all-count.result = leb-false _ _ (sym c.have_room.ensures ∙ c.if-have_room.false) in
-    FillsFrom.short (omega (arith, c.in_all-count.ensures, short)) refl
+    let tab = table_of c.args.work.now in
+    let room = leb-true _ _ (sym c.if-not-have_room.ensures) in
+    let last : c.loop-k.k ≡ in_all tab = omega (arith, c.loop-k-test.false, c.loop-k.auto.k-end, c.in_all-tasks.ensures) in
+    rw c.in_all-tasks.ensures
+    (FillsFrom.done
+    (written_all tab c.args.budget c.args.cells.now c.requires.row_of_table.kept c.loop-k.cells
+    (omega (arith, room, c.in_all-tasks.ensures))
+    (rw (c.prepare.ensures.work_unchanged, last) at c.loop-k.invariant.0)))
+
+pub returns-then-not-have_room : goal.returns-then-not-have_room
+returns-then-not-have_room c =
+    let short : length c.args.cells.now < cells_of_task * c.in_all-tasks.result = leb-false _ _ (sym c.if-not-have_room.ensures) in
+    FillsFrom.short (omega (arith, c.in_all-tasks.ensures, short)) refl

@@ -5,7 +5,7 @@ use Prim.Native.Nat.{ℕ, ◌+◌, ◌-◌}
 use native.Mathlib.Omega.{arith}
 use lib.ListN.{set}
 use Rattle.row.specs.Row.{table_of}
-use Rattle.table.specs.Table.{Table, transactions as transactions_in}
+use Rattle.table.specs.Table.{Table}
 use Rattle.charge.specs.Links.{Idle, NextOther}
 use Rattle.answers.specs.declared.charges.Subject.{Subject}
 use Rattle.answers.specs.Work.{others_cell, Lent, Weighs}

@@ -3,11 +3,11 @@ use Rattle.parts.specs.Parts.{MadeFor}
 use Rattle.answers.proofs.Pushing.{right, made-bounded}
 use Rattle.answers.proofs.pushed.made.Goals as goal
 
-pub returns-in-None : goal.returns-in-None
-returns-in-None c =
-    MadeFor.unbounded (right c.requires.lent.table.kept c.requires.subject.chosen.is_task c.explain.ensures.told) (rw c.in-None.is at c.explain.ensures.why)
+pub returns-in_err-bounded : goal.returns-in_err-bounded
+returns-in_err-bounded c =
+    rw c.from_residual.ensures
+    (MadeFor.unbounded (right c.requires.lent.table.kept c.requires.subject.chosen.is_task c.explain.ensures.told) (rw c.in_err-bounded.was at c.explain.ensures.why))
 
-pub returns-in-Some : goal.returns-in-Some
-returns-in-Some c =
-    rw c.in-Some.field-0-is
-    (made-bounded c.requires.lent.table.kept c.requires.subject.chosen.is_task c.explain.ensures.told (rw c.in-Some.is at c.explain.ensures.why))
+pub returns : goal.returns
+returns c =
+    made-bounded c.requires.lent.table.kept c.requires.subject.chosen.is_task c.explain.ensures.told (rw c.in_ok-bounded.was at c.explain.ensures.why)

@@ -9,7 +9,7 @@ use Rattle.table.specs.Table.{Table, modes as modes_in}
 use Rattle.table.proofs.Ranges.{modes-few, tasks-few}
 use Rattle.charge.proofs.Along.{end-le}
 use Rattle.answers.specs.Work.{weights_cell}
-use Rattle.answers.specs.Parts.{TasksOf, WeighedTo}
+use Rattle.answers.specs.Parts.{WeighedTo}
 use Rattle.answers.proofs.Filling.{same_refl, same-trans, lent_same}
 use Rattle.answers.proofs.Weighing.{weighed-next}
 use Rattle.answers.proofs.work.weigh_transaction.Goals as goal

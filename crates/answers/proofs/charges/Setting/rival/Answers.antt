@@ -1,6 +1,6 @@
 -- A task that weighs nothing changes nothing; any other is a rival, and its charge is taken where there is none yet, or a smaller one.
 -- Assumes nothing.
-use mathlib.Core.Path.{◌≡◌, sym, ◌∙◌}
+use mathlib.Core.Path.{sym, ◌∙◌}
 use Rattle.row.specs.Row.{table_of}
 use Rattle.answers.specs.Who.{most_said}
 use Rattle.answers.proofs.Most.{most-weightless, most-first, most-greater, most-no-greater}
