@@ -5,7 +5,7 @@ use mathlib.Core.List.{List}
 use lib.IntN.{ℤ}
 use Prim.Native.Nat.{ℕ, ◌<◌, ◌^◌}
 use native.Mathlib.Omega.{arith}
-use Rattle.std.specs.Prelude.{Result, Ok}
+use Rattle.std.specs.Prelude.{Result}
 use Rattle.refusals.specs.declared.Fault.{Fault}
 use Rattle.told.specs.Told.{Filling, filled_number, filled_place, Fills, FillsFrom, paired}
 use Rattle.told.proofs.Told.{place-small}
@@ -16,7 +16,7 @@ use Rattle.charge.specs.Later.{later_of}
 use Rattle.analysis.specs.Charge.{Later}
 use Rattle.analysis.specs.Who.{Most, nobody, charged}
 use Rattle.table.specs.Table.{Table}
-use Rattle.asked.specs.Asked.{TellsFilled, TellsMade, TellsAs, TellsPart}
+use Rattle.asked.specs.Asked.{TellsFilled, TellsMade, TellsPart}
 
 pub filled-place : {image : List ℕ} {budget : ℕ} {before after : List ℕ} {x : Filling} → Fills image budget before after x → filled_place x < 2 ^ 32
 filled-place {image} (Fills.refused e f) = place-small image e

@@ -1,6 +1,6 @@
 -- What a host in C is told of who pushed a task: number × 2^32 + place, where a case that is no refusal has the number 0 and stands in
 -- the place, and the cells, which stay as they were where there is nothing to give.
-use Rattle.std.specs.Prelude.{◌≡◌, refl, Bool, true, false, not, List, [], ◌∷◌, map, eqb, ℤ, pos, negsuc, ℕ, Some, None, Result, Ok}
+use Rattle.std.specs.Prelude.{◌≡◌, refl, Bool, not, List, [], ◌∷◌, map, eqb, ℤ, pos, negsuc, ℕ, Some, None, Result, Ok}
 use Rattle.refusals.specs.declared.Refusal.TheVariants.{DeadlineZero}
 use Rattle.refusals.specs.declared.Fault.{Fault}
 use Rattle.refusals.specs.Answer.{refused}

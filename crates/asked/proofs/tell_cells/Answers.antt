@@ -1,5 +1,4 @@
 -- `tell_cells` gives number and place in one: every place fits 32 bits.
-use Rattle.std.proofs.Common.{refl}
 use Rattle.asked.proofs.Told.{filled-place}
 use Rattle.asked.proofs.tell_cells.Goals as goal
 
