@@ -5,8 +5,9 @@ use Rattle.table.specs.Table.{Table, IsTask, transactions, tasks, modes}
 use Rattle.table.specs.Limits.{modes_most, tasks_most, tasks_in_all}
 use Rattle.table.specs.Number.{before, number}
 use Rattle.analysis.specs.Charge.{phase_of, held_of}
+use Rattle.row.specs.Row.{table_of}
 use Rattle.answers.specs.declared.charges.Subject.{Subject}
-use Rattle.answers.specs.Work.{phases_cell, held_cell, weights_cell, mode_weights_cell, sums_cell, settings_cell, others_cell, Chosen}
+use Rattle.answers.specs.Work.{phases_cell, held_cell, weights_cell, mode_weights_cell, sums_cell, settings_cell, others_cell, Lent, Chosen, IsSubject}
 use Rattle.charge.specs.Links.{setting_number, NextSetting, NextOther}
 use Rattle.charge.specs.Weight.{weight, mode_weight, held_back}
 
@@ -19,6 +20,13 @@ pub record SameTo (n : ℕ) (old work : List ℕ) : Type 0 where
 pub record IsSubjectAt (tab : Table) (k : ℕ) (s : Subject) : Type 0 where
   pub chosen : Chosen tab s
   pub numbered : number tab s.u s.a ≡ k
+
+-- s is task a of u of that table, and the work cells are its own
+pub record Chooses (work : List ℕ) (tab : Table) (u a : ℕ) (s : Subject) : Type 0 where
+  pub table : table_of work ≡ tab
+  pub lent : Lent work
+  pub subject : IsSubject work s
+  pub is : (s.u ≡ u) × (s.a ≡ a)
 
 -- the phases, and the jobs held back, of the candidates with numbers below k
 pub record Phased (tab : Table) (k : ℕ) (work : List ℕ) : Type 0 where

@@ -1,21 +1,21 @@
 // All that is told of one task, by one walk: its cells, what its bound is made of, what each other transaction charges until the
 // completion, and how the tasks of its own transaction stand from the critical instant on.
-ghost use Rattle.std.specs.Prelude.{◌≡◌, length, ◌<◌};
+ghost use Rattle.std.specs.Prelude.{◌≡◌, length, OnErr, ◌<◌};
 ghost use Rattle.row.specs.Row.{table_of, RowOfTable};
 ghost use Rattle.table.specs.Table.{transactions, modes, tasks};
-ghost use Rattle.account.specs.Account.{charges_cell, shares_cell, charge_cells, share_cells, laid, share_of, charge_of, AccountFor, refused_with};
+ghost use Rattle.account.specs.Account.{charges_cell, shares_cell, charge_cells, share_cells, laid, share_of, charge_of, AccountFor, with_cells};
 ghost use Rattle.parts.specs.Parts.{OfTask};
 ghost use Rattle.answers.specs.Split.{moment, IsSetting};
 ghost use Rattle.answers.specs.Work.{work_cells, Lent, IsSubject};
 
 use super::charges::{Split, Subject};
 use super::layout::Work;
-use super::pushed::Explained;
+use super::pushed::Bounded;
 use super::quantity::Ticks;
 use super::walk::Source;
 use super::{answers, charges, links, pushed, reads, work};
 use account::{Account, Share};
-use refusals::Refusal;
+use refusals::Fault;
 use row::Table;
 
 // How task j of the subject's transaction stands when candidate c sets the instant in mode m, and what it charges by t.
@@ -32,7 +32,7 @@ fn share(work: &[u32; Work::CELLS], s: Subject, m: usize, c: usize, x: Split, j:
     Share {
         phase,
         held: held as u32,
-        ticks: jobs * reads::wide(weight) + reads::wide(rest),
+        ticks: jobs * u64::from(weight) + u64::from(rest),
     }
 }
 
@@ -50,14 +50,9 @@ fn put_shares(
     requires candidate_bound { by.candidate < tasks (table_of work.now) s.u }
     ensures { cells.new ≡ laid shares_cell (tasks (table_of work.now) s.u) (λ j. share_cells (share_of (table_of work.now) s.u s.a (record { mode = by.mode; candidate = by.candidate }) t j)) cells.old }
 {
-    let x = charges::split_of(work, s.u, Ticks(reads::wide(t)));
-    let m = by.mode;
-    let c = by.candidate;
-    let count = x.count;
-    let mut j: usize = 0;
-    while j < count {
-        share(work, s, m, c, x, j).put(cells, j);
-        j += 1;
+    let x = charges::split_of(work, s.u, Ticks(u64::from(t)));
+    for j in 0..x.count {
+        share(work, s, by.mode, by.candidate, x, j).put(cells, j);
     }
 }
 
@@ -68,10 +63,8 @@ fn put_charges(work: &[u32; Work::CELLS], s: Subject, t: u32, cells: &mut [u64; 
     ensures { cells.new ≡ laid charges_cell (transactions (table_of work.now)) (λ i. charge_cells (charge_of (table_of work.now) s.u s.a t i)) cells.old }
 {
     let count = reads::transactions(work);
-    let mut i: usize = 0;
-    while i < count {
+    for i in 0..count {
         Account::put_charge(pushed::charged(work, s, false, i, t), cells, i);
-        i += 1;
     }
 }
 
@@ -87,12 +80,20 @@ fn subject_account(
     ensures { AccountFor budget cells.old (table_of work.now) s.u s.a (result, cells.new) }
 {
     let deadline = Table::deadline(work, reads::number(work, s.u, s.a));
-    match pushed::explain(work, s, budget) {
-        Explained::Unbounded(answer) => Account::Unbounded(answer.cells(deadline)),
-        Explained::Bounded(answer, by, parts) => {
+    let explained = pushed::explain(work, s, budget);
+    let told = explained.answer.cells(deadline);
+    match explained.bounded {
+        None => Account {
+            cells: told,
+            parts: None,
+        },
+        Some(Bounded { by, parts }) => {
             put_charges(work, s, parts.completion, cells);
             put_shares(work, s, by, parts.completion, cells);
-            Account::Bounded(answer.cells(deadline), parts)
+            Account {
+                cells: told,
+                parts: Some(parts),
+            }
         }
     }
 }
@@ -103,15 +104,12 @@ pub(crate) fn account_from(
     task: usize,
     budget: u32,
     cells: &mut [u64; Account::CELLS],
-) -> Account
+) -> Result<Account, Fault>
     requires row_of_table { RowOfTable work.old }
     requires work_len { length work.old ≡ work_cells }
-    ensures { OfTask (refused_with cells.old) (AccountFor budget cells.old) task (table_of work.old) (result, cells.new) }
+    ensures told { OfTask (AccountFor budget cells.old) task (table_of work.old) (with_cells cells.new result) }
+    ensures stays { OnErr result (cells.new ≡ cells.old) }
 {
-    if task < reads::in_all(&*work) {
-        work::prepare(work);
-        let s = answers::subject(work, task);
-        return subject_account(&*work, s, budget, cells);
-    }
-    Account::Refused(Refusal::NoTask, 0)
+    let s = answers::chosen(work, task)?;
+    Ok(subject_account(&*work, s, budget, cells))
 }

@@ -1,22 +1,25 @@
 // A task's answer, and its cells.
-ghost use Rattle.std.specs.Prelude.{◌≡◌, ◌<◌, ◌≤◌, ◌^◌};
-ghost use Rattle.row.specs.Row.{table_of};
+ghost use Rattle.std.specs.Prelude.{◌≡◌, ◌<◌, ◌≤◌, ◌^◌, length};
+ghost use Rattle.row.specs.Row.{table_of, RowOfTable};
 ghost use Rattle.table.specs.Table.{IsTask, transactions};
 ghost use Rattle.table.specs.Number.{before, in_all};
 ghost use Rattle.periods.specs.Charge.{imposed};
 ghost use Rattle.analysis.specs.Answer.{named};
 ghost use Rattle.analysis.specs.Walk.{answer};
-ghost use Rattle.answers.specs.Parts.{IsSubjectAt};
+ghost use Rattle.answers.specs.Parts.{IsSubjectAt, Chooses};
 ghost use Rattle.answers.specs.Turn.{source_meant};
-ghost use Rattle.answers.specs.Work.{Lent, IsSubject};
+ghost use Rattle.answers.specs.Work.{work_cells, Lent, IsSubject};
 ghost use Rattle.told.specs.Answered.{named_meant, meant, cells_meant};
 ghost use Rattle.told.specs.Told.{OwedAt};
+ghost use Rattle.parts.specs.Parts.{OfTask};
 
+use super::chains::Stopped;
 use super::charges::Subject;
 use super::layout::Work;
 use super::quantity::Jobs;
-use super::walk::{Source, Walk, Walked};
+use super::walk::{Source, Walk};
 use super::{links, overload, reads, work};
+use refusals::{Fault, Refusal};
 use row::Table;
 use told::{Named, TaskAnswer, TaskCells};
 
@@ -43,9 +46,9 @@ pub(crate) fn source(work: &[u32; Work::CELLS], u: usize, by: Named) -> Source
     ensures { named (table_of work.now) u (source_meant result) ≡ named_meant by }
 {
     Source {
-        mode: reads::index(by.mode),
-        candidate: reads::index(by.candidate) - reads::before(work, u),
-        job: Jobs(reads::wide(by.job)),
+        mode: by.mode as usize,
+        candidate: by.candidate as usize - reads::before(work, u),
+        job: Jobs(u64::from(by.job)),
     }
 }
 
@@ -59,13 +62,11 @@ pub(crate) fn answer(work: &[u32; Work::CELLS], s: Subject, budget: u32) -> Task
         return TaskAnswer::Overload;
     }
     match Walk::new().modes(work, s, budget) {
-        Walked::Through(end) => {
-            let best = end.best;
-            let source = best.source;
-            TaskAnswer::Bound(best.response.0 as u32, end.used, named(work, s.u, source))
+        Ok(Walk { used, best }) => {
+            TaskAnswer::Bound(best.response.0 as u32, used, named(work, s.u, best.source))
         }
-        Walked::Past(used) => TaskAnswer::Beyond(used),
-        Walked::Broke => TaskAnswer::Spent(budget),
+        Err(Stopped::Past(used)) => TaskAnswer::Beyond(used),
+        Err(Stopped::Short) => TaskAnswer::Spent(budget),
     }
 }
 
@@ -82,6 +83,22 @@ pub(crate) fn subject(work: &mut [u32; Work::CELLS], k: usize) -> Subject
     work::weigh(work, s);
     links::link(work, s);
     s
+}
+
+// The task of that number of the table that the work cells begin with, and then are its own; 13 where there is none.
+pub(crate) fn chosen(work: &mut [u32; Work::CELLS], task: usize) -> Result<Subject, Fault>
+    requires row_of_table { RowOfTable work.old }
+    requires work_len { length work.old ≡ work_cells }
+    ensures { OfTask (Chooses work.new) task (table_of work.old) result }
+{
+    if reads::in_all(&*work) <= task {
+        return Err(Fault {
+            refusal: Refusal::NoTask,
+            place: 0,
+        });
+    }
+    work::prepare(work);
+    Ok(subject(work, task))
 }
 
 // The cells of the task with number k.

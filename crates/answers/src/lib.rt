@@ -12,8 +12,8 @@ ghost use Rattle.told.specs.Told.{Fills, FillsFrom, Responds, RespondsFrom};
 
 use account::Account;
 use layout::Work;
-use parts::{Made, Part};
-use refusals::{Answer, Refusal};
+use parts::{Part, Parts};
+use refusals::{Fault, Refusal};
 use told::{Filled, TaskCells};
 
 mod accounts;
@@ -21,6 +21,7 @@ mod ahead;
 mod answers;
 mod chains;
 mod charges;
+mod instant;
 mod layout;
 mod lent;
 mod links;
@@ -33,33 +34,32 @@ mod who;
 mod work;
 
 // The cells of every task of the table that the work cells begin with, or nothing where they do not fit.
-fn fill(work: &mut [u32; Work::CELLS], budget: u32, cells: &mut [u32]) -> Filled
+fn fill(work: &mut [u32; Work::CELLS], budget: u32, cells: &mut [u32]) -> Result<Filled, Fault>
     requires row_of_table { RowOfTable work.old }
     requires work_len { length work.old ≡ work_cells }
     ensures { FillsFrom (table_of work.old) budget cells.old cells.new result }
 {
-    let count = reads::in_all(&*work);
-    if TaskCells::have_room(cells.len(), count) {
-        work::prepare(work);
-        let mut k: usize = 0;
-        while k < count {
-            answers::task_cells(work, k, budget).put(cells, k);
-            k += 1;
-        }
-        return Filled::Done(count);
+    let tasks = reads::in_all(&*work);
+    if !TaskCells::have_room(cells.len(), tasks) {
+        return Err(Fault {
+            refusal: Refusal::NoRoom,
+            place: 0,
+        });
     }
-    Filled::Refused(Refusal::NoRoom, 0)
+    work::prepare(work);
+    for k in 0..tasks {
+        answers::task_cells(work, k, budget).put(cells, k);
+    }
+    Ok(Filled { tasks })
 }
 
 // The cells of every task of an image, under a budget that holds for each task afresh.
-pub fn cells(image: &[u8], budget: u32, cells: &mut [u32]) -> Filled
+pub fn cells(image: &[u8], budget: u32, cells: &mut [u32]) -> Result<Filled, Fault>
     ensures { Fills image.now budget cells.old cells.new result }
 {
     let mut working = [0u32; Work::CELLS];
-    match image::read_in_front(image, &mut working) {
-        Answer::Refused(refusal, at) => Filled::Refused(refusal, at),
-        Answer::Accepted => fill(&mut working, budget, cells),
-    }
+    image::read_in_front(image, &mut working)?;
+    fill(&mut working, budget, cells)
 }
 
 // The number for one task of that table.
@@ -82,48 +82,39 @@ pub fn response(image: &[u8], task: u32, budget: u32) -> u64
 {
     let mut working = [0u32; Work::CELLS];
     match image::read_in_front(image, &mut working) {
-        Answer::Refused(refusal, at) => told::pair(refusal.number(), at as u32),
-        Answer::Accepted => response_of(&mut working, reads::index(task), budget),
+        Ok(()) => response_of(&mut working, task as usize, budget),
+        Err(fault) => told::pair(fault.refusal.number(), fault.place as u32),
     }
 }
 
-// What the bound of one task is made of.
-pub fn parts(image: &[u8], task: u32, budget: u32) -> Made
+// What the bound of one task is made of, where it has one.
+pub fn parts(image: &[u8], task: u32, budget: u32) -> Result<Option<Parts>, Fault>
     ensures { Makes image.now task budget result }
 {
     let mut working = [0u32; Work::CELLS];
-    match image::read_in_front(image, &mut working) {
-        Answer::Refused(refusal, at) => Made::Refused(refusal, at),
-        Answer::Accepted => pushed::parts_from(&mut working, reads::index(task), budget),
-    }
+    image::read_in_front(image, &mut working)?;
+    pushed::parts_from(&mut working, task as usize, budget)
 }
 
 // All that is told of one task, by one walk: its cells, what its bound is made of, and in the lent cells who charges what in it.
-pub fn account(image: &[u8], task: u32, budget: u32, cells: &mut [u64; Account::CELLS]) -> Account
+pub fn account(
+    image: &[u8],
+    task: u32,
+    budget: u32,
+    cells: &mut [u64; Account::CELLS],
+) -> Result<Account, Fault>
     ensures { Accounts image.now task budget cells.old cells.new result }
 {
     let mut working = [0u32; Work::CELLS];
-    match image::read_in_front(image, &mut working) {
-        Answer::Refused(refusal, at) => Account::Refused(refusal, at),
-        Answer::Accepted => {
-            accounts::account_from(&mut working, reads::index(task), budget, cells)
-        }
-    }
+    image::read_in_front(image, &mut working)?;
+    accounts::account_from(&mut working, task as usize, budget, cells)
 }
 
 // The greatest charge of one transaction against one task by t, whole jobs at their release or what they impose.
-pub fn charge(image: &[u8], task: u32, transaction: u32, whole: bool, t: u32) -> Part
+pub fn charge(image: &[u8], task: u32, transaction: u32, whole: bool, t: u32) -> Result<Part, Fault>
     ensures { ChargesOne image.now task transaction whole t result }
 {
     let mut working = [0u32; Work::CELLS];
-    match image::read_in_front(image, &mut working) {
-        Answer::Refused(refusal, at) => Part::Refused(refusal, at),
-        Answer::Accepted => pushed::charge_from(
-            &mut working,
-            reads::index(task),
-            reads::index(transaction),
-            whole,
-            t,
-        ),
-    }
+    image::read_in_front(image, &mut working)?;
+    pushed::charge_from(&mut working, task as usize, transaction as usize, whole, t)
 }

@@ -3,23 +3,21 @@
 // what the answers promise, and not how they are found.
 #![tactic(auto)]
 
-ghost use Rattle.std.specs.Prelude.{◌≡◌, ◌<◌, ◌^◌};
-ghost use Rattle.parts.specs.Parts.{Makes, ChargesOne, HasPart, part_number, part_place, part_cells};
-ghost use Rattle.told.specs.Told.{paired};
+ghost use Rattle.std.specs.Prelude.{◌<◌, ◌^◌};
+ghost use Rattle.parts.specs.Parts.{Makes, ChargesOne, HasPart, part_place};
 ghost use Rattle.asked.specs.Asked.{TellsFilled, TellsMade, TellsPart, TellsAs, is_whole};
 
-use parts::{Charge, Made, Part, Parts};
+use parts::{Charge, Part, Parts};
+use refusals::Fault;
 
 // The part of one transaction in the bound of one task.
-pub fn part(image: &[u8], task: u32, budget: u32, transaction: u32) -> Part
+pub fn part(image: &[u8], task: u32, budget: u32, transaction: u32) -> Result<Part, Fault>
     ensures { HasPart image.now task budget transaction result }
 {
-    let made = answers::parts(image, task, budget);
-    match made {
-        Made::Refused(refusal, at) => Part::Refused(refusal, at),
-        Made::NoBound => Part::NoBound,
-        Made::Of(parts) => answers::charge(image, task, transaction, false, parts.completion),
-    }
+    let Some(parts) = answers::parts(image, task, budget)? else {
+        return Ok(Part::NoBound);
+    };
+    answers::charge(image, task, transaction, false, parts.completion)
 }
 
 // The cells of every task.
@@ -27,7 +25,7 @@ pub fn tell_cells(image: &[u8], budget: u32, cells: &mut [u32]) -> u64
     ensures { TellsFilled image.now budget cells.old cells.new result }
 {
     let filled = answers::cells(image, budget, cells);
-    told::pair(filled.number(), filled.place() as u32)
+    told::tell(&filled)
 }
 
 // What the bound of one task is made of, into the cells.
@@ -35,17 +33,17 @@ pub fn tell_parts(image: &[u8], task: u32, budget: u32, cells: &mut [i64; Parts:
     ensures { TellsMade (Makes image.now task budget) cells.old cells.new result }
 {
     let made = answers::parts(image, task, budget);
-    made.put(cells);
-    told::pair(made.number(), made.place() as u32)
+    Parts::put(made, cells);
+    told::tell(&made)
 }
 
 // An answer on one transaction, into the cells.
-fn tell(part: Part, cells: &mut [u64; Charge::COUNT]) -> u64
+fn tell(part: Result<Part, Fault>, cells: &mut [u64; Charge::COUNT]) -> u64
     requires { part_place part < 2 ^ 32 }
     ensures { TellsAs part cells.old cells.new result }
 {
-    part.put(cells);
-    told::pair(part.number(), part.place() as u32)
+    Part::put(part, cells);
+    told::tell(&part)
 }
 
 // The part of one transaction in the bound of one task, into the cells.
@@ -61,12 +59,6 @@ pub fn tell_part(
     tell(part(image, task, budget, transaction), cells)
 }
 
-fn is_whole(whole: u32) -> bool
-    ensures { result ≡ is_whole whole }
-{
-    whole != 0
-}
-
 // The greatest charge of one transaction against one task by t, into the cells: what is imposed where `whole` is 0, else what is
 // released.
 pub fn tell_charge(
@@ -80,7 +72,7 @@ pub fn tell_charge(
     ensures { TellsPart (ChargesOne image.now task transaction (is_whole whole) t) cells.old cells.new result }
 {
     tell(
-        answers::charge(image, task, transaction, is_whole(whole), t),
+        answers::charge(image, task, transaction, whole != 0, t),
         cells,
     )
 }

@@ -1,8 +1,7 @@
 // The bits of a table put into a buffer, field by field from front to back. The row is one whose table no rule refuses, so every
 // count is small; that there is room is not asked here, what lies past the end of the buffer is lost.
-ghost use Rattle.std.specs.Prelude.{◌≡◌, ◌^◌, ◌<◌};
+ghost use Rattle.std.specs.Prelude.{◌≡◌};
 ghost use Rattle.bits.specs.Put.{bits_put};
-ghost use Rattle.table.specs.Limits.{transactions_most};
 ghost use Rattle.table.specs.Lists.{joined};
 ghost use Rattle.table.specs.Table.{transactions};
 ghost use Rattle.table.specs.Kept.{Kept};
@@ -12,7 +11,7 @@ ghost use Rattle.format.specs.Write.{start_of};
 ghost use Rattle.row.specs.Row.{task_of, transaction_of, table_of};
 ghost use Rattle.writer.specs.Parts.{header_bits, head_bits, front_bits, back_bits, time_bits, task_bits_from};
 
-use super::parts::{TaskAt, Tasks};
+use super::parts::{TaskAt, Tasks, TransactionAt};
 use put::put;
 use row::{Table, Task, Transaction};
 
@@ -88,24 +87,33 @@ fn lay_tasks(tasks: Tasks, buffer: &mut [u8])
     }
 }
 
-// What stands before the tasks of transaction u.
-fn lay_head(row: &[u32], u: usize, buffer: &mut [u8], at: usize)
-    requires u_lt_transactions_most { u < transactions_most }
-    requires at_bound { at < 2 ^ 32 }
-    ensures { buffer.new ≡ bits_put buffer.old at (head_bits row.now u) }
+// What stands before the tasks of a transaction.
+fn lay_head(t: TransactionAt, buffer: &mut [u8])
+    ensures { buffer.new ≡ bits_put buffer.old t.entry.at (head_bits t.entry.row.now t.entry.number) }
 {
-    put(buffer, at, Transaction::PERIOD_WIDTH, Table::period(row, u));
+    let TransactionAt {
+        row,
+        number,
+        at,
+        ..
+    } = t;
+    put(
+        buffer,
+        at,
+        Transaction::PERIOD_WIDTH,
+        Table::period(row, number),
+    );
     put(
         buffer,
         at + Transaction::MODES_AT,
         Transaction::MODES_WIDTH,
-        Table::modes(row, u),
+        Table::modes(row, number),
     );
     put(
         buffer,
         at + Transaction::TASKS_AT,
         Transaction::TASKS_WIDTH,
-        Table::tasks(row, u),
+        Table::tasks(row, number),
     );
 }
 
@@ -115,11 +123,17 @@ pub(crate) fn size(row: &[u32]) -> usize
     ensures { result ≡ bytes_to (start_of (table_of row.now) (transactions (table_of row.now))) }
 {
     let count = Table::transactions(row);
-    let mut first: usize = 0;
+    let mut before: usize = 0;
     let mut at = Table::FIRST_AT;
     for u in 0..count as usize {
-        let tasks = Tasks::of(row, u, first, at);
-        first += tasks.count;
+        let t = TransactionAt {
+            row,
+            number: u,
+            before,
+            at,
+        };
+        let tasks = t.tasks();
+        before += tasks.count;
         at = tasks.end();
     }
     (at + 7) / 8
@@ -131,13 +145,19 @@ fn lay_transactions(row: &[u32], buffer: &mut [u8])
     ensures { buffer.new ≡ bits_put buffer.old first_at (joined (transactions (table_of row.now)) (λ u. transaction_bits (transaction_of row.now u))) }
 {
     let count = Table::transactions(row);
-    let mut first: usize = 0;
+    let mut before: usize = 0;
     let mut at = Table::FIRST_AT;
     for u in 0..count as usize {
-        let tasks = Tasks::of(row, u, first, at);
-        lay_head(row, u, buffer, at);
+        let t = TransactionAt {
+            row,
+            number: u,
+            before,
+            at,
+        };
+        let tasks = t.tasks();
+        lay_head(t, buffer);
         lay_tasks(tasks, buffer);
-        first += tasks.count;
+        before += tasks.count;
         at = tasks.end();
     }
 }

@@ -1,14 +1,47 @@
-// The parts of a row by the bit position where each would start in the image: the tasks of a transaction, and a task.
+// The parts of a row by the bit position where each would start in the image: a transaction, its tasks, and a task.
 ghost use Rattle.std.specs.Prelude.{◌≡◌, ◌+◌, ◌*◌, ◌^◌, ◌<◌, ◌≤◌};
 ghost use Rattle.table.specs.Sum.{greatest};
-ghost use Rattle.table.specs.Limits.{modes_most, tasks_most, tasks_in_all};
+ghost use Rattle.table.specs.Limits.{transactions_most, modes_most, tasks_most, tasks_in_all};
 ghost use Rattle.row.specs.Row.{modes_cell, has_cell, head_cell, time_cell};
 ghost use Rattle.format.specs.Places.{head_width, task_width, time_at};
 
 use row::{Table, Task, Transaction};
 
-// The tasks of a transaction, where its counts are accepted: the number of the first, how many there are, how many modes each has, and
-// where the first would start.
+// A transaction of a row: its number, how many tasks stand before it, and where it would start.
+#[derive(Clone, Copy)]
+pub(crate) struct TransactionAt<'a> {
+    pub row: &'a [u32],
+    pub number: usize,
+    pub before: usize,
+    pub at: usize,
+    ghost number_bound: { number < transactions_most },
+    ghost before_bound: { before ≤ tasks_in_all },
+    ghost at_bound: { at < 2 ^ 30 },
+}
+
+impl<'a> TransactionAt<'a> {
+    // Its tasks, where its counts are accepted.
+    pub fn tasks(self) -> Tasks<'a>
+        requires modes_cell_bound { head_cell self.row.now self.number modes_cell ≤ modes_most }
+        requires has_cell_bound { head_cell self.row.now self.number has_cell ≤ tasks_most }
+        requires in_all_bound { self.before + head_cell self.row.now self.number has_cell ≤ tasks_in_all }
+        ensures row_value { result.row ≡ self.entry.row }
+        ensures first_value { result.first ≡ self.entry.before }
+        ensures count_value { result.count ≡ head_cell self.entry.row.now self.entry.number has_cell }
+        ensures modes_value { result.modes ≡ head_cell self.entry.row.now self.entry.number modes_cell }
+        ensures at_value { result.at ≡ self.entry.at + head_width }
+    {
+        Tasks {
+            row: self.row,
+            first: self.before,
+            count: Table::tasks(self.row, self.number) as usize,
+            modes: Table::modes(self.row, self.number) as usize,
+            at: self.at + Transaction::WIDTH,
+        }
+    }
+}
+
+// The tasks of a transaction: the number of the first, how many there are, how many modes each has, and where the first would start.
 #[derive(Clone, Copy)]
 pub(crate) struct Tasks<'a> {
     pub row: &'a [u32],
@@ -23,27 +56,6 @@ pub(crate) struct Tasks<'a> {
 }
 
 impl<'a> Tasks<'a> {
-    // Those of transaction u, which would start at a bit position.
-    pub fn of(row: &'a [u32], u: usize, first: usize, at: usize) -> Tasks<'a>
-        requires modes_cell_bound { head_cell row.now u modes_cell ≤ modes_most }
-        requires has_cell_bound { head_cell row.now u has_cell ≤ tasks_most }
-        requires in_all_bound { first + head_cell row.now u has_cell ≤ tasks_in_all }
-        requires at_bound { at < 2 ^ 30 }
-        ensures row_value { result.row ≡ row.entry }
-        ensures first_value { result.first ≡ first }
-        ensures count_value { result.count ≡ head_cell row.entry.now u has_cell }
-        ensures modes_value { result.modes ≡ head_cell row.entry.now u modes_cell }
-        ensures at_value { result.at ≡ at + head_width }
-    {
-        Tasks {
-            row,
-            first,
-            count: Table::tasks(row, u) as usize,
-            modes: Table::modes(row, u) as usize,
-            at: at + Transaction::WIDTH,
-        }
-    }
-
     // Its task number j.
     pub fn task(self, j: usize) -> TaskAt<'a>
         requires { j < self.count }

@@ -1,8 +1,8 @@
 // The first fault of the table that a row holds, front to back. Reading a cell is total, so each check reads its number whether the
 // row holds it or not. A count may be any number: what is counted is looked at only where the count was accepted, and all places
 // are small there, so that no sum wraps.
-ghost use Rattle.std.specs.Prelude.{◌≡◌, ◌+◌, ◌/◌, ◌^◌, ◌<◌, ◌≤◌, IsTrue};
-ghost use Rattle.table.specs.Limits.{time_width, transactions_most, tasks_in_all};
+ghost use Rattle.std.specs.Prelude.{◌≡◌, ◌/◌, ◌^◌, ◌<◌, ◌≤◌, IsTrue};
+ghost use Rattle.table.specs.Limits.{time_width, transactions_most};
 ghost use Rattle.table.specs.Table.{transactions};
 ghost use Rattle.refusals.specs.Answer.{accepted, first_of};
 ghost use Rattle.row.specs.Row.{table_of, time_cell};
@@ -10,7 +10,7 @@ ghost use Rattle.format.specs.Places.{time_at};
 ghost use Rattle.format.specs.Write.{table_fault};
 ghost use Rattle.writer.specs.Scan.{fits_at, header_fault, task_fault, head_fault, transaction_fault, body_fault};
 
-use super::parts::{TaskAt, Tasks};
+use super::parts::{TaskAt, TransactionAt};
 use refusals::{Answer, Refusal, check};
 use row::{Table, Task, Transaction};
 
@@ -121,18 +121,23 @@ fn task(task: TaskAt) -> Answer
     }
 }
 
-// The counts and the period of transaction u, where `before` tasks stand before it.
+// The counts and the period of a transaction.
 #[tactic(auto, unfolding(refusals::proofs::Findings::joining, table::specs::Rules::head_rules))]
-fn head(row: &[u32], u: usize, before: usize, at: usize) -> Answer
-    requires { at < 2 ^ 32 }
-    ensures { result ≡ head_fault row.now u before at }
+fn head(t: TransactionAt) -> Answer
+    ensures { result ≡ head_fault t.entry.row.now t.entry.number t.entry.before t.entry.at }
 {
+    let TransactionAt {
+        row,
+        number,
+        before,
+        at,
+    } = t;
     let modes_at = at + Transaction::MODES_AT;
     let tasks_at = at + Transaction::TASKS_AT;
     let frame = Table::frame(row);
-    let period = Table::period(row, u);
-    let modes = Table::modes(row, u);
-    let tasks = Table::tasks(row, u);
+    let period = Table::period(row, number);
+    let modes = Table::modes(row, number);
+    let tasks = Table::tasks(row, number);
     fits(period, Transaction::PERIOD_WIDTH, at)?;
     rules::period(frame, period, at)?;
     fits(modes, Transaction::MODES_WIDTH, modes_at)?;
@@ -141,13 +146,11 @@ fn head(row: &[u32], u: usize, before: usize, at: usize) -> Answer
     rules::tasks(before, tasks as usize, tasks_at)
 }
 
-fn transaction(row: &[u32], u: usize, before: usize, at: usize) -> Answer
-    requires before_le_tasks_in_all { before ≤ tasks_in_all }
-    requires at_bound { at < 2 ^ 30 }
-    ensures { result ≡ transaction_fault row.now u before at }
+fn transaction(t: TransactionAt) -> Answer
+    ensures { result ≡ transaction_fault t.entry.row.now t.entry.number t.entry.before t.entry.at }
 {
-    head(row, u, before, at)?;
-    let tasks = Tasks::of(row, u, before, at);
+    head(t)?;
+    let tasks = t.tasks();
     for j in 0..tasks.count {
         task(tasks.task(j))?;
     }
@@ -163,8 +166,14 @@ fn transactions(row: &[u32]) -> Answer
     let mut before: usize = 0;
     let mut at = Table::FIRST_AT;
     for u in 0..count as usize {
-        transaction(row, u, before, at)?;
-        let tasks = Tasks::of(row, u, before, at);
+        let t = TransactionAt {
+            row,
+            number: u,
+            before,
+            at,
+        };
+        transaction(t)?;
+        let tasks = t.tasks();
         before += tasks.count;
         at = tasks.end();
     }

@@ -1,32 +1,17 @@
--- `account_from` tells all of the task, or 13 where the table has no task of that number.
-use mathlib.Core.Path.{subst}
-use mathlib.Core.List.{List}
-use Prim.Native.Nat.{ℕ}
-use native.Mathlib.Omega.{arith}
-use Rattle.table.specs.Table.{Table}
-use Rattle.parts.specs.Parts.{OfTask}
-use Rattle.account.specs.declared.Account.{Account}
-use Rattle.account.specs.Account.{AccountFor, refused_with}
+-- By the task that was chosen, or 13 where the table has no task of that number.
+use Rattle.std.proofs.Common.{refl}
+use Rattle.std.proofs.lemmas.Result.{err_from_is_err_and}
+use Rattle.answers.proofs.Choosing.{chosen-lent, chosen-told, chosen-none}
 use Rattle.answers.proofs.accounts.account_from.Goals as goal
 
-pub subject-s-requires : goal.subject-s-requires
-subject-s-requires c =
-    let p = c in
-    let t = p in
-    let lent = p.prepare.ensures.lent in let table = p.prepare.ensures.work_unchanged in record { lent = lent; k_bound = rw table (omega (arith, t.if-task-in_all.true, t.in_all.ensures)) }
+pub subject_account-requires : goal.subject_account-requires
+subject_account-requires c =
+    let (lent, subject) = chosen-lent c.in_ok-s.ensures in record { lent = lent; subject = subject }
 
-pub returns-then-task-in_all : goal.returns-then-task-in_all
-returns-then-task-in_all c =
-    let q = c in
-    let p = q in
-    let a = p.args in
-    let s = q.subject-s.result in
-    let before = a.cells.now in
-    let told : Account × List ℕ = (c.subject_account.result, c.subject_account.new.cells) in
-    let named = q.subject-s.ensures.subject_at in let lent = q.subject-s.ensures.lent_2 in let table = q.subject-s.ensures.work_unchanged in let subject = q.subject-s.ensures.subject in
-    subst (λ (tab : Table). OfTask (refused_with before) (AccountFor a.budget before) a.task tab told) p.prepare.ensures.work_unchanged
-    (OfTask.known named.chosen.is_task named.numbered
-    (subst (λ (tab : Table). AccountFor a.budget before tab s.u s.a told) table c.subject_account.ensures))
+pub returns-in_err-s : goal.returns-in_err-s
+returns-in_err-s c =
+    let p = err_from_is_err_and c.from_residual.result c.from_residual.ensures.1 in
+    rw (p.1, p.2) (record { told = chosen-none c.in_err-s.ensures; stays = refl })
 
 pub returns : goal.returns
-returns c = OfTask.unknown (omega (arith, c.if-task-in_all.false, c.in_all.ensures))
+returns c = record { told = chosen-told c.in_ok-s.ensures c.subject_account.ensures; stays = tt }

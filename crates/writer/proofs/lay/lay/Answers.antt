@@ -4,9 +4,4 @@ use Rattle.writer.proofs.Laid.{table-laid}
 use Rattle.writer.proofs.lay.lay.Goals as goal
 
 pub returns : goal.returns
-returns c =
-    let laid = c in
-    let header = laid in
-    let start = header in
-    laid.lay_transactions.ensures
-    ∙ rw header.lay_header.ensures (table-laid start.args.row.now start.requires start.args.buffer.now)
+returns c = c.lay_transactions.ensures ∙ rw c.lay_header.ensures (table-laid c.args.row.now c.requires c.args.buffer.now)

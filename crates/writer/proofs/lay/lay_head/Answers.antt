@@ -9,21 +9,16 @@ use Rattle.writer.proofs.lay.lay_head.Goals as goal
 pub returns : goal.returns
 unfolding head_bits
 returns c =
-    let third = c in
-    let second = third in
-    let first = second in
-    let start = first in
-    let row = start.args.row.now in
-    let u = start.args.u in
-    third.put-3.ensures
+    let t = c.args.t in
+    c.put-3.ensures
     ∙ rw (
-      third.tasks.ensures,
-      second.put-2.ensures,
-      second.modes.ensures,
-      first.put.ensures,
-      first.period.ensures,
-      head-cell row u period_cell start.requires.u_lt_transactions_most,
-      head-cell row u modes_cell start.requires.u_lt_transactions_most,
-      head-cell row u has_cell start.requires.u_lt_transactions_most,
+      c.tasks.ensures,
+      c.put-2.ensures,
+      c.modes.ensures,
+      c.put.ensures,
+      c.period.ensures,
+      head-cell t.row.now t.number period_cell t.number_bound,
+      head-cell t.row.now t.number modes_cell t.number_bound,
+      head-cell t.row.now t.number has_cell t.number_bound,
     )
-    (three-laid start.args.buffer.now start.args.at 24 4 5 _ _ _)
+    (three-laid c.args.buffer.now t.at 24 4 5 _ _ _)

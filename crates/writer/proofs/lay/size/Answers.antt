@@ -14,18 +14,24 @@ pub loop-u-init : goal.loop-u-init
 unfolding start_of tasks_before sum
 loop-u-init c = record { tasks = refl; starts = refl; near = omega arith }
 
-pub of-tasks-requires : goal.of-tasks-requires
-of-tasks-requires c =
+pub invariant_of-t : goal.invariant_of-t
+invariant_of-t c =
     let walk = c.loop-u.invariant in
     let here = few c.args.row.now c.requires c.loop-u.u (omega (arith, c.transactions-count.ensures)) in
-    record { modes_cell_bound = here.modes; has_cell_bound = here.tasks; in_all_bound = rw walk.tasks here.in_all; at_bound = omega arith }
+    record { number_bound = here.transactions; before_bound = omega (arith, here, walk.tasks); at_bound = omega arith }
+
+pub tasks-tasks-requires : goal.tasks-tasks-requires
+tasks-tasks-requires c =
+    let walk = c.loop-u.invariant in
+    let here = few c.args.row.now c.requires c.loop-u.u (omega (arith, c.transactions-count.ensures)) in
+    record { modes_cell_bound = here.modes; has_cell_bound = here.tasks; in_all_bound = rw walk.tasks here.in_all }
 
 pub loop-u-preserved : goal.loop-u-preserved
 loop-u-preserved c =
     let row = c.args.row.now in
     let u = c.loop-u.u in
     let walk = c.loop-u.invariant in
-    let is = c.of-tasks.ensures in
+    let is = c.tasks-tasks.ensures in
     let there : u < transactions (table_of row) = omega (arith, c.transactions-count.ensures) in
     let here = few row c.requires u there in
     let starts = c.end-at.ensures ∙ next-place row u here.transactions there walk.starts is.at_value is.count_value is.modes_value in

@@ -7,7 +7,7 @@ use Rattle.writer.proofs.lay.size.Given as goal
 abbrev pub invariant-loop-u : goal.invariant-loop-u
 invariant-loop-u l =
     record {
-      tasks : l.first ≡ tasks_before l.row l.u;
+      tasks : l.before ≡ tasks_before l.row l.u;
       starts : l.at ≡ start_of (table_of l.row) l.u;
       near : l.at < 1_000_000;
     }

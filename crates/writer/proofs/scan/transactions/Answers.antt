@@ -32,18 +32,17 @@ returns-in_err-transaction c =
     body-parts row ∙ fails (faults (table_of row)) (transactions (table_of row)) c.loop-u.u _ there walk.none (sym here ∙ c.in_err-transaction.was) in
     search rules
 
-pub of-tasks-requires : goal.of-tasks-requires
-of-tasks-requires c =
+pub tasks-tasks-requires : goal.tasks-tasks-requires
+tasks-tasks-requires c =
     let few = small _ _ _ _ (none_first _ _ (sym (transaction-parts _ _ _ _) ∙ sym c.transaction.ensures ∙ c.in_ok-transaction.was)) in
-    let near : c.loop-u.u < transactions_most = omega (arith, c.transactions-count.ensures, c.requires) in
-    record { modes_cell_bound = few.modes; has_cell_bound = few.tasks; in_all_bound = few.in_all; at_bound = omega (arith, near) }
+    record { modes_cell_bound = few.modes; has_cell_bound = few.tasks; in_all_bound = few.in_all }
 
 pub loop-u-preserved : goal.loop-u-preserved
 loop-u-preserved c =
     let row = c.args.row.now in
     let walk = c.loop-u.invariant in
-    let t = c.of-tasks.result in
-    let is = c.of-tasks.ensures in
+    let t = c.tasks-tasks.result in
+    let is = c.tasks-tasks.ensures in
     let there : c.loop-u.u < transactions (table_of row) = omega (arith, c.transactions-count.ensures) in
     let few : c.loop-u.u < transactions_most = omega (arith, there, c.requires) in
     let here = rw (walk.tasks, walk.starts) at c.transaction.ensures ∙ transaction-part row there few in
