@@ -21,8 +21,10 @@ use Rattle.analysis.proofs.Response.{response-job, bound-most}
 use Rattle.analysis.proofs.Answer.{answer-by, answer-bound}
 use Rattle.told.specs.declared.TaskAnswer.TheVariants.{Overload as Overloaded}
 use Rattle.answers.specs.declared.walk.Source.{Source}
-use Rattle.answers.specs.declared.walk.Walked.{Walked}
-use Rattle.answers.specs.declared.walk.Walked.TheVariants.{Through, Past, Broke}
+use Rattle.std.specs.Prelude.{Result, Ok, Err}
+use Rattle.answers.specs.declared.chains.Stopped.{Stopped}
+use Rattle.answers.specs.declared.chains.Stopped.TheVariants.{Past, Short}
+use Rattle.answers.specs.declared.walk.Walk.{Walk}
 use Rattle.answers.specs.Lent.{tested}
 use Rattle.answers.specs.Turn.{Near, source_meant, best_said, walked}
 use Rattle.told.specs.Answered.{meant}
@@ -31,10 +33,10 @@ use Rattle.answers.proofs.Instants.{jobs-few, job-near}
 -- ---- the walk's end
 
 -- the answer for how far the code's walk of a task of u came
-abbrev pub answer_for : Table → (u budget : ℕ) → Walked → Answer
-answer_for tab u budget (Through w) = bound w.best.response.0 w.used (named tab u (source_meant w.best.source))
-answer_for tab u budget (Past used) = beyond used
-answer_for tab u budget Broke = spent budget
+abbrev pub answer_for : Table → (u budget : ℕ) → Result Walk Stopped → Answer
+answer_for tab u budget (Ok w) = bound w.best.response.0 w.used (named tab u (source_meant w.best.source))
+answer_for tab u budget (Err (Past used)) = beyond used
+answer_for tab u budget (Err Short) = spent budget
 
 walked-answer : (tab : Table) (u budget : ℕ) (w : walk.Walked) → answer_for tab u budget (walked budget w) ≡ answer_of tab u budget w
 unfolding walked best_said source_meant answer_of
@@ -94,7 +96,7 @@ module _ (tab : Table) (u a budget : ℕ) where
 
   -- a task that is not overloaded has the answer of its walk
   pub walk-answer :
-      {w : Walked} {used : ℕ} {best : walk.Best}
+      {w : Result Walk Stopped} {used : ℕ} {best : walk.Best}
       → tested (overload? tab u a) ≡ false
       → used ≡ 0
       → best ≡ walk.nothing

@@ -8,15 +8,16 @@ use Rattle.analysis.specs.Chain.{came, over, back, past}
 use Rattle.analysis.specs.Walk as walk
 use Rattle.analysis.specs.Walk.{ended, chain}
 use Rattle.analysis.proofs.Chain.{step-on, chain-enough}
-use Rattle.answers.specs.declared.chains.Stop.{Stop}
-use Rattle.answers.specs.declared.chains.Stop.TheVariants.{Came, Over, Short}
+use Rattle.std.specs.Prelude.{Result, Ok, Err}
+use Rattle.answers.specs.declared.chains.Came.{Came}
+use Rattle.answers.specs.declared.chains.Stopped.{Stopped}
+use Rattle.answers.specs.declared.chains.Stopped.TheVariants.{Past, Short}
 use Rattle.answers.specs.Turn.{stopped}
 
 -- what holds of where t came back, with evaluations within the budget
-abbrev pub Comes : ℕ → (ℕ → Type 0) → Stop → Type 0
-Comes budget Has (Came w used) = Has w.0 × (used ≤ budget)
-Comes budget Has (Over used) = Unit {0}
-Comes budget Has Short = Unit {0}
+abbrev pub Comes : ℕ → (ℕ → Type 0) → Result Came Stopped → Type 0
+Comes budget Has (Ok x) = Has x.t.0 × (x.used ≤ budget)
+Comes budget Has (Err e) = Unit {0}
 
 -- what is left is at most that
 abbrev pub Keeps : ℕ → walk.Stop → Type 0
@@ -33,17 +34,17 @@ module _ (f : ℕ → ℕ) {Passed : ℕ → Type 0} (over? : (v : ℕ) → Dec 
   left-all x h = record { within = h; same = refl }
 
   module _ {budget used x made t : ℕ} (left : Left budget used x made t) where
-    pub left-came : made < budget → f t ≡ t → Came (record { 0 = t }) (made + 1) ≡ stopped budget (chain f over? (budget - used) x)
+    pub left-came : made < budget → f t ≡ t → Ok (record { t = record { 0 = t }; used = made + 1 }) ≡ stopped budget (chain f over? (budget - used) x)
     unfolding stopped
     left-came l e =
         let s : chain f over? (budget - used) x ≡ ended (came t) (budget - made - 1) = sym left.same ∙ chain-enough f over? (back e) (budget - made) (omega arith) in
-        rw s (ap (Came (record { 0 = t })) (omega arith))
+        rw s (ap (λ (n : ℕ). Ok (record { t = record { 0 = t }; used = n })) (omega arith))
 
-    pub left_over : made < budget → ¬ (f t ≡ t) → Passed (f t) → Over (made + 1) ≡ stopped budget (chain f over? (budget - used) x)
+    pub left_over : made < budget → ¬ (f t ≡ t) → Passed (f t) → Err (Past (made + 1)) ≡ stopped budget (chain f over? (budget - used) x)
     unfolding stopped
     left_over l n o =
         let s : chain f over? (budget - used) x ≡ ended over (budget - made - 1) = sym left.same ∙ chain-enough f over? (past n o) (budget - made) (omega arith) in
-        rw s (ap Over (omega arith))
+        rw s (ap (λ (n : ℕ). Err (Past n)) (omega arith))
 
     pub left-on : {v : ℕ} → v ≡ f t → made < budget → ¬ (v ≡ t) → ¬ (Passed v) → Left budget used x (made + 1) v
     left-on {v} value l n o =
@@ -51,7 +52,7 @@ module _ (f : ℕ → ℕ) {Passed : ℕ → Type 0} (over? : (v : ℕ) → Dec 
         let step : chain f over? (suc (budget - (made + 1))) t ≡ chain f over? (budget - (made + 1)) v = rw value (step-on f over? t (budget - (made + 1)) (rw (← value) n) (rw (← value) o)) in
         record { within = omega arith; same = sym step ∙ ap (λ (k : ℕ). chain f over? k t) (sym more) ∙ left.same }
 
-    pub left-none : budget ≤ made → Short ≡ stopped budget (chain f over? (budget - used) x)
+    pub left-none : budget ≤ made → Err Short ≡ stopped budget (chain f over? (budget - used) x)
     unfolding stopped chain
     left-none l =
         let none : budget - made ≡ 0 = omega arith in

@@ -1,8 +1,8 @@
 -- One turn of the walk: the ranges of its numbers, and that its chains stay within the horizon.
-use mathlib.Core.Path.{◌≡◌, refl, sym, subst₂}
+use mathlib.Core.Path.{◌≡◌, refl, sym, ap, subst, subst₂, ◌∙◌}
 use lib.IntN.{ℤ, pos, ◌+ℤ◌, ◌-ℤ◌, ◌*ℤ◌}
 use Prim.Native.Nat.{ℕ, ◌+◌, ◌-◌, ◌*◌, ◌≤◌, ◌<◌, ◌^◌}
-use native.Mathlib.Nat.{le_trans, le-mul_of_pos_right}
+use native.Mathlib.Nat.{le_trans, le_of_eq, le-mul_of_pos_right}
 use native.Mathlib.Omega.{arith}
 use Rattle.table.specs.Limits.{horizon}
 use Rattle.table.specs.Table.{Table, IsTask, period, tasks, task, blocking}
@@ -15,12 +15,15 @@ use Rattle.periods.proofs.Phase.{phase-lt}
 use Rattle.periods.proofs.Charge.{ceiling-is, ceil-le}
 use Rattle.analysis.specs.Choice.{count}
 use Rattle.analysis.specs.Charge.{phase_of, held_of}
-use Rattle.analysis.specs.Bound.{Setting, arrival, first_job, last_job, jobs_to, demand, busy, response}
+use Rattle.analysis.specs.Bound.{arrival, first_job, last_job, jobs_to, demand, busy, response}
 use Rattle.analysis.specs.Needed.{job, start}
 use Rattle.analysis.specs.Walk.{chain, beyond?, never?}
 use Rattle.analysis.proofs.Join.{jobs-by}
 use Rattle.analysis.proofs.Charges.{imposed-fair, demand-grows, start-below, job-below-busy, busy-some}
+use Rattle.std.specs.Prelude.{Result, Ok}
+use Rattle.answers.specs.declared.chains.Came.{Came}
 use Rattle.answers.specs.declared.chains.Instant.{Instant}
+use Rattle.answers.specs.declared.chains.Stopped.{Stopped}
 use Rattle.answers.specs.Turn.{IsInstant, Near, Reaches, Lasts, stopped}
 use Rattle.answers.proofs.Chain.{Comes, chain-comes}
 use Rattle.charge.proofs.Ranges.{held-of-lt}
@@ -138,10 +141,44 @@ module _ {tab : Table} (kept : Kept tab) {u a : ℕ} (is_task : IsTask tab u a) 
     reaches-on t h = le_trans (demand-grows kept (imposed-fair.rises h) is_task m c p) reaches.enough
 
     -- and so does where it comes back
-    pub reaches-comes : (budget left : ℕ) → Comes budget (λ w. (w ≤ reaches.t) × (demand imposed tab u a m c p w ≡ w)) (stopped budget (chain (demand imposed tab u a m c p) never? left (start tab u a m c p)))
-    reaches-comes budget left = chain-comes (demand imposed tab u a m c p) never? budget (λ t h o. reaches-on t h) left (start tab u a m c p) reaches-start
+    pub reaches-came : (budget left : ℕ) {r : Result Came Stopped} {x : Came} → r ≡ stopped budget (chain (demand imposed tab u a m c p) never? left (start tab u a m c p)) → r ≡ Ok x → x.t.0 ≤ horizon
+    reaches-came budget left is came =
+        let back = subst (Comes budget (λ w. (w ≤ reaches.t) × (demand imposed tab u a m c p w ≡ w))) (sym is ∙ came) (chain-comes (demand imposed tab u a m c p) never? budget {Has = λ w. w ≤ reaches.t} (λ t h o. reaches-on t h) left (start tab u a m c p) reaches-start) in
+        le_trans back.0.0 reaches.within
 
-  -- the L chain comes back between 1 and the horizon
-  pub busy-comes : {m c : ℕ} → Setting tab u a m c → (budget left : ℕ) → Comes budget (λ w. ((1 ≤ w) × (w ≤ horizon)) × (busy tab u a m c w ≡ w)) (stopped budget (chain (busy tab u a m c) beyond? left 1))
-  busy-comes {m} {c} setting budget left =
-      chain-comes (busy tab u a m c) beyond? budget (λ t h o. (busy-some kept is_task setting h.0, omega arith)) left 1 (omega arith)
+  -- where the L chain of a turn came back: the busy time lasts so long
+  module _ {m c : ℕ} {x : Instant} (instant : IsInstant tab u a m c x) (budget left : ℕ) {r : Result Came Stopped} {came : Came} (is : r ≡ stopped budget (chain (busy tab u a m c) beyond? left 1)) (ok : r ≡ Ok came) where
+    busy-comes : (((1 ≤ came.t.0) × (came.t.0 ≤ horizon)) × (busy tab u a m c came.t.0 ≡ came.t.0)) × (came.used ≤ budget)
+    busy-comes =
+        subst (Comes budget (λ w. ((1 ≤ w) × (w ≤ horizon)) × (busy tab u a m c w ≡ w))) (sym is ∙ ok)
+        (chain-comes (busy tab u a m c) beyond? budget (λ t h o. (busy-some kept is_task instant.setting h.0, omega arith)) left 1 (omega arith))
+
+    pub came-used : came.used ≤ budget
+    came-used = busy-comes.1
+
+    pub came-some : 1 ≤ came.t.0
+    came-some = busy-comes.0.0.0
+
+    pub came-within : came.t.0 ≤ horizon
+    came-within = busy-comes.0.0.1
+
+    module _ {p : ℤ} (last : p ≡ ceiling (pos came.t.0 -ℤ pos x.phase.0) x.period.0) where
+      pub came-near : Near p
+      came-near = rw (last, instant-last instant came.t.0) (last-near c came-within)
+
+      pub came-jobs : {n : ℕ} → n ≡ count (p -ℤ x.first.0 +ℤ pos 1) → n ≡ jobs_to tab u a c (last_job tab u a c came.t.0)
+      came-jobs few = few ∙ instant-jobs instant p ∙ ap (jobs_to tab u a c) (last ∙ instant-last instant came.t.0)
+
+      pub came-lasts : {n : ℕ} → n ≡ count (p -ℤ x.first.0 +ℤ pos 1) → Lasts tab u a m c n
+      came-lasts few = record { L = came.t.0; some = came-some; within = came-within; enough = le_of_eq busy-comes.0.1; jobs = came-jobs few }
+
+  -- the N-th job of a turn
+  module _ {m c n N : ℕ} {x : Instant} {p : ℤ} (instant : IsInstant tab u a m c x) (lasts : Lasts tab u a m c n) (l : N < n) (is : p ≡ x.first.0 +ℤ pos N) where
+    pub nth-number : p ≡ job tab u a c N
+    nth-number = is ∙ instant-job instant N
+
+    pub nth-near : Near p
+    nth-near = rw nth-number (job-near c lasts.within (rw lasts.jobs at l))
+
+    pub nth-reaches : Reaches tab u a m c p
+    nth-reaches = rw nth-number (lasts-reaches lasts l)

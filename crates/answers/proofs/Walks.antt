@@ -1,35 +1,45 @@
 -- The walk in steps: a walk is its first step and, where that comes through, the rest; so each loop of the code keeps 'what
 -- is left gives what the whole gives'.
-use mathlib.Core.Path.{◌≡◌, refl, sym, ap, ap₂, ◌∙◌, subst, subst₂}
-use mathlib.Core.Bool.{true, false}
-use mathlib.Core.Logic.{ite}
+use mathlib.Core.Path.{◌≡◌, refl, sym, ap, ap₂, ◌∙◌, subst₂}
+use mathlib.Core.Bool.{true, false, not}
+use mathlib.Core.Logic.{ite, inl}
+use lib.Dec.{eqb}
+use borrow.Author.Tests.{eq-eqb, ne_eqb}
 use mathlib.Core.List.{List, [], ◌∷◌, ◌++◌, map, filter}
+use lib.IntN.{ℤ}
 use Prim.Native.Nat.{ℕ, zero, suc, ◌+◌, ◌-◌, ◌≤◌, ◌<◌}
 use native.Mathlib.Decide.{dec_lt, ℕ_discrete}
 use native.Mathlib.Omega.{arith}
 use Rattle.table.specs.Table.{Table, tasks}
+use Rattle.analysis.specs.Choice.{count}
 use Rattle.analysis.specs.Charge.{Later}
 use Rattle.analysis.specs.Rival.{Candidate, candidate?, candidate_by, Rival, rival?, Runs, runs?}
-use Rattle.analysis.specs.Bound.{last_job, jobs_to, demand, busy}
+use Rattle.analysis.specs.Bound.{last_job, jobs_to, demand, busy, response}
 use Rattle.analysis.specs.Chain.{came, over}
 use Rattle.analysis.specs.Needed.{job, start}
 use Rattle.analysis.specs.Order as order
 use Rattle.analysis.specs.Order.{from, candidates, turns}
 use Rattle.analysis.specs.Walk as walk
 use Rattle.analysis.specs.Walk.{ended, through, past, better_by, better, answered, chain, beyond?, never?, walk_jobs, walk_turn, walk_turns}
-use Rattle.answers.specs.declared.chains.Stop.{Stop}
-use Rattle.answers.specs.declared.chains.Stop.TheVariants.{Came, Over, Short}
-use Rattle.answers.specs.declared.quantity.Ticks.{Ticks}
+use Rattle.std.specs.Prelude.{Result, Ok, Err}
+use Rattle.answers.specs.declared.chains.Came.{Came}
+use Rattle.answers.specs.declared.chains.Stopped.{Stopped}
 use Rattle.answers.specs.declared.walk.Best.{Best}
 use Rattle.answers.specs.declared.walk.Walk.{Walk}
-use Rattle.answers.specs.declared.walk.Walked.{Walked}
-use Rattle.answers.specs.declared.walk.Walked.TheVariants.{Through, Past, Broke}
+use Rattle.charge.specs.Weight.{weight}
+use Rattle.charge.proofs.Weights.{weightless, weighty}
 use Rattle.answers.specs.Lent.{tested}
 use Rattle.answers.specs.Turn.{stopped, source_meant, best_meant, best_said, walked, turns_from, turns_by, mode_turns}
+use Rattle.answers.proofs.Flags.{tested-yes, chosen-flag, spared-flag}
 use Rattle.answers.proofs.Chain as C
 use Rattle.answers.proofs.Chain.{chain-keeps}
 
 -- ---- the best so far
+
+-- the job and its response, as it is answered
+pub met-answered : (tab : Table) (u a N w : ℕ) (b : Best) → b.response.0 ≡ count (response tab u a b.source.candidate (job tab u a b.source.candidate N) w) → b.source.job.0 ≡ N → best_meant b ≡ answered tab u a b.source.mode b.source.candidate N w
+unfolding best_meant source_meant answered
+met-answered tab u a N w b e n = λ i. record { response = e i; source = record { turn = record { mode = b.source.mode; candidate = b.source.candidate }; job = n i } }
 
 pub meant-said : (b : walk.Best) → best_meant (best_said b) ≡ b
 unfolding source_meant best_meant best_said
@@ -84,49 +94,37 @@ pub record Steps (rest first others : ℕ → walk.Best → walk.Walked) : Type 
   pub is : (left : ℕ) (best : walk.Best) → rest left best ≡ onward (first left best) others
   pub keeps : (most left : ℕ) (best : walk.Best) → left ≤ most → Keeps most (first left best)
 
--- a code's walk that did not come through
-abbrev pub Stays : Walked → Type 0
-Stays (Through x) = ⊥
-Stays (Past used) = Unit {0}
-Stays Broke = Unit {0}
-
--- as the match on it says
-pub stays : (w : Walked) → ((x : Walk) → w ≡ Through x → ⊥) → Stays w
-stays (Through x) k = absurd (k x refl)
-stays (Past used) k = tt
-stays Broke k = tt
-
-module _ {budget : ℕ} {whole : walk.Walked} {rest first others : ℕ → walk.Best → walk.Walked} {x : Walk} (going : Going budget whole rest x) (split : Steps rest first others) {step : Walked} (is : step ≡ walked budget (first (budget - x.used) (best_meant x.best))) where
-  pub going_on : {next : Walk} → step ≡ Through next → Going budget whole others next
+module _ {budget : ℕ} {whole : walk.Walked} {rest first others : ℕ → walk.Best → walk.Walked} {x : Walk} (going : Going budget whole rest x) (split : Steps rest first others) {step : Result Walk Stopped} (is : step ≡ walked budget (first (budget - x.used) (best_meant x.best))) where
+  pub going_on : {next : Walk} → step ≡ Ok next → Going budget whole others next
   unfolding walked
   going_on {next} e =
       go (first (budget - x.used) (best_meant x.best)) (split.keeps budget (budget - x.used) (best_meant x.best) (omega arith)) (sym (split.is (budget - x.used) (best_meant x.best)) ∙ going.same) (sym is ∙ e)
     where
-      go : (w : walk.Walked) → Keeps budget w → onward w others ≡ whole → walked budget w ≡ Through next → Going budget whole others next
+      go : (w : walk.Walked) → Keeps budget w → onward w others ≡ whole → walked budget w ≡ Ok next → Going budget whole others next
       go (through left best) k s d =
           let e : record { used = budget - left; best = best_said best } ≡ next = cc in
           let u : budget - left ≡ next.used = ap (λ (y : Walk). y.used) e in
           let b : best ≡ best_meant next.best = sym (meant-said best) ∙ ap (λ (y : Walk). best_meant y.best) e in
           record { within = omega arith; same = ap₂ others (omega arith) (sym b) ∙ s }
-      go (past left) k s d = let z : ◌≡◌ {A = ℕ} 0 1 = cc in absurd (omega arith)
-      go walk.Walked.short k s d = let z : ◌≡◌ {A = ℕ} 0 1 = cc in absurd (omega arith)
+      go (past left) k s d = absurd cc
+      go walk.Walked.short k s d = absurd cc
 
-  pub going-stops : Stays step → step ≡ walked budget whole
+  pub going-stops : {e : Stopped} → step ≡ Err e → Err e ≡ walked budget whole
   unfolding walked
-  going-stops h =
-      go (first (budget - x.used) (best_meant x.best)) (sym (split.is (budget - x.used) (best_meant x.best)) ∙ going.same) is
+  going-stops {e} h =
+      go (first (budget - x.used) (best_meant x.best)) (sym (split.is (budget - x.used) (best_meant x.best)) ∙ going.same) (sym h ∙ is)
     where
-      go : (w : walk.Walked) → onward w others ≡ whole → step ≡ walked budget w → step ≡ walked budget whole
-      go (through left best) s d = absurd (subst Stays d h)
+      go : (w : walk.Walked) → onward w others ≡ whole → Err e ≡ walked budget w → Err e ≡ walked budget whole
+      go (through left best) s d = absurd cc
       go (past left) s d = d ∙ ap (walked budget) s
       go walk.Walked.short s d = d ∙ ap (walked budget) s
 
-pub going-ends : {budget : ℕ} {whole : walk.Walked} {rest : ℕ → walk.Best → walk.Walked} {x : Walk} → Going budget whole rest x → ((left : ℕ) (best : walk.Best) → rest left best ≡ through left best) → Through x ≡ walked budget whole
+pub going-ends : {budget : ℕ} {whole : walk.Walked} {rest : ℕ → walk.Best → walk.Walked} {x : Walk} → Going budget whole rest x → ((left : ℕ) (best : walk.Best) → rest left best ≡ through left best) → Ok x ≡ walked budget whole
 unfolding walked
 going-ends {budget} {whole} {rest} {x} going none =
     let back : x.used ≡ budget - (budget - x.used) = omega (arith, going.within) in
     let e : whole ≡ through (budget - x.used) (best_meant x.best) = sym going.same ∙ none (budget - x.used) (best_meant x.best) in
-    rw e (λ i. Through (record { used = back i; best = sym (said-meant x.best) i }))
+    rw e (λ i. Ok (record { used = back i; best = sym (said-meant x.best) i }))
 
 -- a loop that counts to n: at i there are n − i steps to do
 counted : (rest : (todo i : ℕ) → ℕ → walk.Best → walk.Walked) (first : ℕ → ℕ → walk.Best → walk.Walked) → ((todo i : ℕ) → Steps (rest (suc todo) i) (first i) (rest todo (suc i))) → (n i : ℕ) → i < n → Steps (rest (n - i) i) (first i) (rest (n - (i + 1)) (i + 1))
@@ -154,31 +152,21 @@ after-keeps most rest (ended over left) k each = tt
 after-keeps most rest walk.Stop.short k each = tt
 
 -- and as the code says it
-abbrev pub after_stop : (Ticks → ℕ → Walked) → Stop → Walked
-after_stop rest (Came w used) = rest w used
-after_stop rest (Over used) = Past used
-after_stop rest Short = Broke
+abbrev pub after_stop : (Came → Result Walk Stopped) → Result Came Stopped → Result Walk Stopped
+after_stop rest (Ok x) = rest x
+after_stop rest (Err e) = Err e
 
-after-stopped : (budget : ℕ) (rest : ℕ → ℕ → walk.Walked) (s : walk.Stop) → C.Keeps budget s → walked budget (after rest s) ≡ after_stop (λ w used. walked budget (rest w.0 (budget - used))) (stopped budget s)
+after-stopped : (budget : ℕ) (rest : ℕ → ℕ → walk.Walked) (s : walk.Stop) → C.Keeps budget s → walked budget (after rest s) ≡ after_stop (λ x. walked budget (rest x.t.0 (budget - x.used))) (stopped budget s)
 unfolding walked stopped
 after-stopped budget rest (ended (came w) left) k = ap (λ (l : ℕ). walked budget (rest w l)) (omega arith)
 after-stopped budget rest (ended over left) k = refl
 after-stopped budget rest walk.Stop.short k = refl
 
-after-through : (budget : ℕ) (best : ℕ → walk.Best) (s : walk.Stop) → walked budget (after (λ w left. through left (best w)) s) ≡ after_stop (λ w used. Through (record { used = used; best = best_said (best w.0) })) (stopped budget s)
+after-through : (budget : ℕ) (best : ℕ → walk.Best) (s : walk.Stop) → walked budget (after (λ w left. through left (best w)) s) ≡ after_stop (λ x. Ok (record { used = x.used; best = best_said (best x.t.0) })) (stopped budget s)
 unfolding walked stopped
 after-through budget best (ended (came w) left) = refl
 after-through budget best (ended over left) = refl
 after-through budget best walk.Stop.short = refl
-
--- how the chain of the N-th job stops, and the L chain
-abbrev pub job_stop : Later → Table → (u a m c budget N left : ℕ) → Stop
-job_stop later tab u a m c budget N left =
-    stopped budget
-    (chain (demand later tab u a m c (job tab u a c N)) never? left (start tab u a m c (job tab u a c N)))
-
-abbrev pub length_stop : Table → (u a m c budget left : ℕ) → Stop
-length_stop tab u a m c budget left = stopped budget (chain (busy tab u a m c) beyond? left 1)
 
 -- ---- jobs
 
@@ -219,11 +207,21 @@ module _ (later : Later) (tab : Table) (u a m c : ℕ) where
       ap (λ (k : ℕ). walk_jobs later tab u a m c k N left best) none
 
   -- one job, by how its chain stopped
-  pub job-walked : (budget N left : ℕ) (best : walk.Best) → walked budget (walk_jobs later tab u a m c 1 N left best) ≡ after_stop (λ w used. Through (record { used = used; best = best_said (better best (answered tab u a m c N w.0)) })) (job_stop later tab u a m c budget N left)
-  unfolding walk_jobs
-  job-walked budget N left best =
-      ap (walked budget) (jobs-after zero N left best)
-      ∙ after-through budget (λ w. better best (answered tab u a m c N w)) (chain (demand later tab u a m c (job tab u a c N)) never? left (start tab u a m c (job tab u a c N)))
+  module _ (budget N left : ℕ) (best : walk.Best) {p : ℤ} (number : p ≡ job tab u a c N) {r : Result Came Stopped} (is : r ≡ stopped budget (chain (demand later tab u a m c p) never? left (start tab u a m c p))) where
+    job-walked : walked budget (walk_jobs later tab u a m c 1 N left best) ≡ after_stop (λ x. Ok (record { used = x.used; best = best_said (better best (answered tab u a m c N x.t.0)) })) r
+    unfolding walk_jobs
+    job-walked =
+        rw (is, number)
+        (
+        ap (walked budget) (jobs-after zero N left best)
+        ∙ after-through budget (λ w. better best (answered tab u a m c N w)) (chain (demand later tab u a m c (job tab u a c N)) never? left (start tab u a m c (job tab u a c N)))
+        )
+
+    pub job-stops : {e : Stopped} → r ≡ Err e → Err e ≡ walked budget (walk_jobs later tab u a m c 1 N left best)
+    job-stops h = rw (job-walked, h) refl
+
+    pub job-comes : {x : Came} {b : Best} → r ≡ Ok x → best_meant b ≡ better best (answered tab u a m c N x.t.0) → Ok (record { used = x.used; best = b }) ≡ walked budget (walk_jobs later tab u a m c 1 N left best)
+    job-comes {x} {b} h e = rw (job-walked, h, ← e, said-meant b) refl
 
 -- ---- turns
 
@@ -247,10 +245,20 @@ module _ (later : Later) (tab : Table) (u a : ℕ) where
       (after-keeps most (λ L l. walk_jobs later tab u a s.mode s.candidate (jobs_to tab u a s.candidate (last_job tab u a s.candidate L)) 0 l best) (chain (busy tab u a s.mode s.candidate) beyond? left 1) (chain-keeps (busy tab u a s.mode s.candidate) beyond? most left 1 h) (λ L l k. jobs-keeps later tab u a s.mode s.candidate most (jobs_to tab u a s.candidate (last_job tab u a s.candidate L)) 0 l best k))
 
   -- one turn, by how its L chain stopped
-  pub turn-walked : (budget m c left : ℕ) (best : walk.Best) → left ≤ budget → walked budget (walk_turn later tab u a (record { mode = m; candidate = c }) left best) ≡ after_stop (λ L used. walked budget (walk_jobs later tab u a m c (jobs_to tab u a c (last_job tab u a c L.0)) 0 (budget - used) best)) (length_stop tab u a m c budget left)
-  turn-walked budget m c left best h =
-      ap (walked budget) (turn-after (record { mode = m; candidate = c }) left best)
-      ∙ after-stopped budget _ _ (chain-keeps (busy tab u a m c) beyond? budget left 1 h)
+  module _ (budget used m c : ℕ) (best : walk.Best) {r : Result Came Stopped} (is : r ≡ stopped budget (chain (busy tab u a m c) beyond? (budget - used) 1)) where
+    turn-walked : walked budget (walk_turn later tab u a (record { mode = m; candidate = c }) (budget - used) best) ≡ after_stop (λ x. walked budget (walk_jobs later tab u a m c (jobs_to tab u a c (last_job tab u a c x.t.0)) 0 (budget - x.used) best)) r
+    turn-walked =
+        rw is
+        (
+        ap (walked budget) (turn-after (record { mode = m; candidate = c }) (budget - used) best)
+        ∙ after-stopped budget _ _ (chain-keeps (busy tab u a m c) beyond? budget (budget - used) 1 (omega arith))
+        )
+
+    pub turn-stops : {e : Stopped} → r ≡ Err e → Err e ≡ walked budget (walk_turn later tab u a (record { mode = m; candidate = c }) (budget - used) best)
+    turn-stops h = rw (turn-walked, h) refl
+
+    pub turn-comes : {x : Came} {n : ℕ} {w : Result Walk Stopped} → r ≡ Ok x → n ≡ jobs_to tab u a c (last_job tab u a c x.t.0) → w ≡ walked budget (walk_jobs later tab u a m c n 0 (budget - x.used) best) → w ≡ walked budget (walk_turn later tab u a (record { mode = m; candidate = c }) (budget - used) best)
+    turn-comes h few e = rw (turn-walked, h, ← few) e
 
   turns-cons : (s : order.Turn) (rest : List order.Turn) (left : ℕ) (best : walk.Best) → walk_turns later tab u a (s ∷ rest) left best ≡ onward (walk_turn later tab u a s left best) (walk_turns later tab u a rest)
   unfolding walk_turns
@@ -384,13 +392,29 @@ candidate-other tab u a m c n = go (ℕ_discrete c a) (rival? tab u a u m c)
     go (no h) (yes r) = refl
     go (no h) (no r) = refl
 
+-- the task itself is a candidate
+pub candidate-own : (tab : Table) (u a m c : ℕ) → c ≡ a → eqb c a ≡ tested (candidate? tab u a m c)
+candidate-own tab u a m c e = eq-eqb c a e ∙ sym (tested-yes (candidate? tab u a m c) (inl e))
+
+-- and another is one where it weighs something
+pub candidate-weighs : (tab : Table) (u a m c : ℕ) {w : ℕ} → ¬ (c ≡ a) → w ≡ weight tab u a u m c → not (eqb w 0) ≡ tested (candidate? tab u a m c)
+candidate-weighs tab u a m c {w} n e = go (ℕ_discrete w 0)
+  where
+    go : Dec (w ≡ 0) → not (eqb w 0) ≡ tested (candidate? tab u a m c)
+    go (yes z) =
+        ap not (eq-eqb w 0 z)
+        ∙ sym (candidate-other tab u a m c n ∙ spared-flag (rival? tab u a u m c) (weightless tab u a u m c (sym e ∙ z) 1))
+    go (no h) =
+        ap not (ne_eqb w 0 h)
+        ∙ sym (candidate-other tab u a m c n ∙ chosen-flag (rival? tab u a u m c) (weighty tab u a u m c (λ z. h (e ∙ z)) 1))
+
 -- what a flag says of its decision
 pub tested-true : {A : Type 0} (d : Dec A) → tested d ≡ true → A
 unfolding tested
 tested-true (yes h) e = h
-tested-true (no n) e = let z : ◌≡◌ {A = ℕ} 0 1 = cc in absurd (omega arith)
+tested-true (no n) e = absurd cc
 
 pub tested-false : {A : Type 0} (d : Dec A) → tested d ≡ false → ¬ A
 unfolding tested
-tested-false (yes h) e = let z : ◌≡◌ {A = ℕ} 0 1 = cc in absurd (omega arith)
+tested-false (yes h) e = absurd cc
 tested-false (no n) e = n

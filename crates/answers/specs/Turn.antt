@@ -1,5 +1,5 @@
 -- What a turn of the walk and its chains are, in the code's own types.
-use Rattle.std.specs.Prelude.{◌≡◌, ℤ, ℕ, ◌-◌, ◌≤◌, ◌<◌, ◌^◌}
+use Rattle.std.specs.Prelude.{◌≡◌, ℤ, ℕ, ◌-◌, ◌≤◌, ◌<◌, ◌^◌, Result, Ok, Err}
 use Rattle.std.specs.Int.Signed.{mag}
 use Rattle.table.specs.Table.{Table, period, tasks, offset, blocking, time}
 use Rattle.table.specs.Limits.{horizon}
@@ -14,12 +14,12 @@ use Rattle.analysis.specs.Rival.{runs?, candidate?}
 use Rattle.analysis.specs.Walk as walk
 use Rattle.analysis.specs.Walk.{ended, through, past}
 use Rattle.answers.specs.declared.chains.Instant.{Instant}
-use Rattle.answers.specs.declared.chains.Stop.{Stop}
-use Rattle.answers.specs.declared.chains.Stop.TheVariants.{Came, Over, Short}
+use Rattle.answers.specs.declared.chains.Came.{Came}
+use Rattle.answers.specs.declared.chains.Stopped.{Stopped}
+use Rattle.answers.specs.declared.chains.Stopped.TheVariants.{Past, Short}
 use Rattle.answers.specs.declared.walk.Source.{Source}
 use Rattle.answers.specs.declared.walk.Best.{Best}
-use Rattle.answers.specs.declared.walk.Walked.{Walked}
-use Rattle.answers.specs.declared.walk.Walked.TheVariants.{Through, Past, Broke}
+use Rattle.answers.specs.declared.walk.Walk.{Walk}
 
 -- x holds the numbers of that mode and that candidate
 pub record IsInstant (tab : Table) (u a m c : ℕ) (x : Instant) : Type 0 where
@@ -52,10 +52,10 @@ pub record Lasts (tab : Table) (u a m c n : ℕ) : Type 0 where
   pub jobs : n ≡ jobs_to tab u a c (last_job tab u a c L)
 
 -- how a chain stopped, with the evaluations made of a budget, as the code says it
-unfoldable pub stopped : (budget : ℕ) → walk.Stop → Stop
-stopped budget (ended (came t) left) = Came (record { 0 = t }) (budget - left)
-stopped budget (ended over left) = Over (budget - left)
-stopped budget walk.Stop.short = Short
+unfoldable pub stopped : (budget : ℕ) → walk.Stop → Result Came Stopped
+stopped budget (ended (came t) left) = Ok (record { t = record { 0 = t }; used = budget - left })
+stopped budget (ended over left) = Err (Past (budget - left))
+stopped budget walk.Stop.short = Err Short
 
 -- a job of the walk and its response, as the definitions say them
 unfoldable pub source_meant : Source → order.Source
@@ -78,10 +78,10 @@ best_said b =
     }
 
 -- how far a walk came, as the code says it
-unfoldable pub walked : (budget : ℕ) → walk.Walked → Walked
-walked budget (through left best) = Through (record { used = budget - left; best = best_said best })
-walked budget (past left) = Past (budget - left)
-walked budget walk.Walked.short = Broke
+unfoldable pub walked : (budget : ℕ) → walk.Walked → Result Walk Stopped
+walked budget (through left best) = Ok (record { used = budget - left; best = best_said best })
+walked budget (past left) = Err (Past (budget - left))
+walked budget walk.Walked.short = Err Short
 
 -- the turns of the candidates from c on, n of them, in mode m
 unfoldable pub turns_from : Table → (u a m c n : ℕ) → List Turn

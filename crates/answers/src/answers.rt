@@ -12,10 +12,11 @@ ghost use Rattle.answers.specs.Work.{Lent, IsSubject};
 ghost use Rattle.told.specs.Answered.{named_meant, meant, cells_meant};
 ghost use Rattle.told.specs.Told.{OwedAt};
 
+use super::chains::Stopped;
 use super::charges::Subject;
 use super::layout::Work;
 use super::quantity::Jobs;
-use super::walk::{Source, Walk, Walked};
+use super::walk::{Source, Walk};
 use super::{links, overload, reads, work};
 use row::Table;
 use told::{Named, TaskAnswer, TaskCells};
@@ -43,9 +44,9 @@ pub(crate) fn source(work: &[u32; Work::CELLS], u: usize, by: Named) -> Source
     ensures { named (table_of work.now) u (source_meant result) ≡ named_meant by }
 {
     Source {
-        mode: reads::index(by.mode),
-        candidate: reads::index(by.candidate) - reads::before(work, u),
-        job: Jobs(reads::wide(by.job)),
+        mode: by.mode as usize,
+        candidate: by.candidate as usize - reads::before(work, u),
+        job: Jobs(u64::from(by.job)),
     }
 }
 
@@ -59,13 +60,11 @@ pub(crate) fn answer(work: &[u32; Work::CELLS], s: Subject, budget: u32) -> Task
         return TaskAnswer::Overload;
     }
     match Walk::new().modes(work, s, budget) {
-        Walked::Through(end) => {
-            let best = end.best;
-            let source = best.source;
-            TaskAnswer::Bound(best.response.0 as u32, end.used, named(work, s.u, source))
+        Ok(Walk { used, best }) => {
+            TaskAnswer::Bound(best.response.0 as u32, used, named(work, s.u, best.source))
         }
-        Walked::Past(used) => TaskAnswer::Beyond(used),
-        Walked::Broke => TaskAnswer::Spent(budget),
+        Err(Stopped::Past(used)) => TaskAnswer::Beyond(used),
+        Err(Stopped::Short) => TaskAnswer::Spent(budget),
     }
 }
 

@@ -32,11 +32,17 @@ pub(crate) struct Instant {
     pub(crate) first: JobNumber,
 }
 
-// How a chain with a budget ended, and the evaluations made so far.
+// Where a chain came back, and the evaluations made so far.
 #[derive(Clone, Copy)]
-pub(crate) enum Stop {
-    Came(Ticks, u32),
-    Over(u32),
+pub(crate) struct Came {
+    pub(crate) t: Ticks,
+    pub(crate) used: u32,
+}
+
+// Why a chain with a budget, and the walk with it, came to no end: past the horizon after that many evaluations, or short of budget.
+#[derive(Clone, Copy)]
+pub(crate) enum Stopped {
+    Past(u32),
     Short,
 }
 
@@ -101,8 +107,7 @@ fn start(x: Instant, p: JobNumber) -> Ticks
     requires time_bound { x.time.0 < 2 ^ 24 }
     ensures { result.0 ≡ x.blocking.0 + count (p.0 -ℤ x.first.0 +ℤ pos 1) * x.time.0 }
 {
-    let first = x.first;
-    Ticks(x.blocking.0 + jobs_to(first, p).0 * x.time.0)
+    Ticks(x.blocking.0 + jobs_to(x.first, p).0 * x.time.0)
 }
 
 // The demand of the jobs to p, and of the rivals, at t.
@@ -133,9 +138,7 @@ pub(crate) fn busy(work: &[u32; Work::CELLS], s: Subject, x: Instant, t: Ticks) 
     requires t_le_horizon { t.0 ≤ horizon }
     ensures { result.0 ≡ busy (table_of work.now) s.u s.a x.mode x.candidate t.0 }
 {
-    let period = x.period;
-    let phase = x.phase;
-    demand(work, s, x, true, last_job(period, phase, t), t)
+    demand(work, s, x, true, last_job(x.period, x.phase, t), t)
 }
 
 // The chain for L: it starts at 1, and ends where t comes back or the value exceeds the horizon. Cycles of it that come again
@@ -146,14 +149,14 @@ pub(crate) fn busy_chain(
     x: Instant,
     budget: u32,
     used: u32,
-) -> Stop
+) -> Result<Came, Stopped>
     requires lent { Lent work.now }
     requires subject { IsSubject work.now s }
     requires instant { IsInstant (table_of work.now) s.u s.a x.mode x.candidate x }
     requires used_le_budget { used ≤ budget }
     ensures { result ≡ stopped budget (chain (busy (table_of work.now) s.u s.a x.mode x.candidate) beyond? (budget - used) 1) }
 {
-    let horizon = reads::wide(Table::horizon());
+    let horizon = u64::from(Table::horizon());
     let frame = reads::frame(work);
     let mut made = used;
     let mut t = Ticks(1);
@@ -162,17 +165,17 @@ pub(crate) fn busy_chain(
         let value = busy(work, s, x, t);
         made += 1;
         if value.0 == t.0 {
-            return Stop::Came(t, made);
+            return Ok(Came { t, used: made });
         }
         if horizon < value.0 {
-            return Stop::Over(made);
+            return Err(Stopped::Past(made));
         }
         let next = ahead::go_on(work, s, x, frame, mark, value, budget - made);
         made += next.evaluations;
         t = next.t;
         mark = next.mark;
     }
-    Stop::Short
+    Err(Stopped::Short)
 }
 
 // The chain of job p: it starts at B + (p − p0 + 1)·C, and ends where t comes back.
@@ -183,7 +186,7 @@ pub(crate) fn job_chain(
     p: JobNumber,
     budget: u32,
     used: u32,
-) -> Stop
+) -> Result<Came, Stopped>
     requires lent { Lent work.now }
     requires subject { IsSubject work.now s }
     requires instant { IsInstant (table_of work.now) s.u s.a x.mode x.candidate x }
@@ -198,9 +201,9 @@ pub(crate) fn job_chain(
         let value = demand(work, s, x, false, p, t);
         made += 1;
         if value.0 == t.0 {
-            return Stop::Came(t, made);
+            return Ok(Came { t, used: made });
         }
         t = value;
     }
-    Stop::Short
+    Err(Stopped::Short)
 }

@@ -14,7 +14,7 @@ ghost use Rattle.answers.specs.Lent.{tested};
 ghost use Rattle.answers.specs.Turn.{IsInstant, Near, Lasts, best_meant, walked, turns_from, mode_turns};
 ghost use Rattle.answers.specs.Work.{Lent, IsSubject};
 
-use super::chains::{Instant, Stop};
+use super::chains::{Instant, Stopped};
 use super::charges::Subject;
 use super::layout::Work;
 use super::quantity::{JobNumber, Jobs, Moment, Ticks};
@@ -40,14 +40,6 @@ pub(crate) struct Best {
 pub(crate) struct Walk {
     pub(crate) used: u32,
     pub(crate) best: Best,
-}
-
-// How far a walk came: through, past the horizon, or short of budget.
-#[derive(Clone, Copy)]
-pub(crate) enum Walked {
-    Through(Walk),
-    Past(u32),
-    Broke,
 }
 
 // The arrival of job p, F + (p − 1)·T: here ticks and job numbers are joined.
@@ -102,13 +94,7 @@ fn is_candidate(work: &[u32; Work::CELLS], s: Subject, m: usize, c: usize) -> bo
     requires c_bound { c < tasks (table_of work.now) s.u }
     ensures { result ≡ tested (candidate? (table_of work.now) s.u s.a m c) }
 {
-    if c == s.a {
-        return true;
-    }
-    if links::weight(work, s, s.u, m, c) == 0 {
-        return false;
-    }
-    true
+    c == s.a || links::weight(work, s, s.u, m, c) != 0
 }
 
 impl Walk {
@@ -137,7 +123,7 @@ impl Walk {
         n: Jobs,
         jobs: Jobs,
         budget: u32,
-    ) -> Walked
+    ) -> Result<Walk, Stopped>
         requires lent { Lent work.now }
         requires subject { IsSubject work.now s }
         requires instant { IsInstant (table_of work.now) s.u s.a x.mode x.candidate x }
@@ -146,28 +132,20 @@ impl Walk {
         requires used_le_budget { self.used ≤ budget }
         ensures { result ≡ walked budget (walk_jobs imposed (table_of work.now) s.u s.a x.mode x.candidate 1 n.0 (budget - self.used) (best_meant self.best)) }
     {
-        let first = x.first;
-        let p = job(first, n);
-        match chains::job_chain(work, s, x, p, budget, self.used) {
-            Stop::Came(w, used) => {
-                let best = self.best;
-                let source = Source {
-                    mode: x.mode,
-                    candidate: x.candidate,
-                    job: n,
-                };
-                let met = Best {
-                    response: response(x, p, w),
-                    source,
-                };
-                Walked::Through(Walk {
-                    used,
-                    best: better(best, met),
-                })
-            }
-            Stop::Over(used) => Walked::Past(used),
-            Stop::Short => Walked::Broke,
-        }
+        let p = job(x.first, n);
+        let came = chains::job_chain(work, s, x, p, budget, self.used)?;
+        let met = Best {
+            response: response(x, p, came.t),
+            source: Source {
+                mode: x.mode,
+                candidate: x.candidate,
+                job: n,
+            },
+        };
+        Ok(Walk {
+            used: came.used,
+            best: better(self.best, met),
+        })
     }
 
     // The jobs of one turn, lowest first.
@@ -178,7 +156,7 @@ impl Walk {
         x: Instant,
         jobs: Jobs,
         budget: u32,
-    ) -> Walked
+    ) -> Result<Walk, Stopped>
         requires lent { Lent work.now }
         requires subject { IsSubject work.now s }
         requires instant { IsInstant (table_of work.now) s.u s.a x.mode x.candidate x }
@@ -186,22 +164,22 @@ impl Walk {
         requires used_le_budget { self.used ≤ budget }
         ensures { result ≡ walked budget (walk_jobs imposed (table_of work.now) s.u s.a x.mode x.candidate jobs.0 0 (budget - self.used) (best_meant self.best)) }
     {
-        let count = jobs.0;
         let mut state = self;
-        let mut n: u64 = 0;
-        while n < count {
-            let step = state.job(work, s, x, Jobs(n), jobs, budget);
-            let Walked::Through(next) = step else {
-                return step;
-            };
-            state = next;
-            n += 1;
+        for n in 0..jobs.0 {
+            state = state.job(work, s, x, Jobs(n), jobs, budget)?;
         }
-        Walked::Through(state)
+        Ok(state)
     }
 
     // One turn: the L chain, then the jobs.
-    fn turn(self, work: &[u32; Work::CELLS], s: Subject, m: usize, c: usize, budget: u32) -> Walked
+    fn turn(
+        self,
+        work: &[u32; Work::CELLS],
+        s: Subject,
+        m: usize,
+        c: usize,
+        budget: u32,
+    ) -> Result<Walk, Stopped>
         requires lent { Lent work.now }
         requires subject { IsSubject work.now s }
         requires setting { Setting (table_of work.now) s.u s.a m c }
@@ -209,18 +187,13 @@ impl Walk {
         ensures { result ≡ walked budget (walk_turn imposed (table_of work.now) s.u s.a (record { mode = m; candidate = c }) (budget - self.used) (best_meant self.best)) }
     {
         let x = chains::instant_of(work, s, m, c);
-        match chains::busy_chain(work, s, x, budget, self.used) {
-            Stop::Came(length, used) => {
-                let period = x.period;
-                let phase = x.phase;
-                let first = x.first;
-                let jobs = chains::jobs_to(first, chains::last_job(period, phase, length));
-                let best = self.best;
-                Walk { used, best }.jobs(work, s, x, jobs, budget)
-            }
-            Stop::Over(used) => Walked::Past(used),
-            Stop::Short => Walked::Broke,
-        }
+        let came = chains::busy_chain(work, s, x, budget, self.used)?;
+        let jobs = chains::jobs_to(x.first, chains::last_job(x.period, x.phase, came.t));
+        let state = Walk {
+            used: came.used,
+            best: self.best,
+        };
+        state.jobs(work, s, x, jobs, budget)
     }
 
     // The turn of c, if it is a candidate.
@@ -231,7 +204,7 @@ impl Walk {
         m: usize,
         c: usize,
         budget: u32,
-    ) -> Walked
+    ) -> Result<Walk, Stopped>
         requires lent { Lent work.now }
         requires subject { IsSubject work.now s }
         requires m_bound { m < modes (table_of work.now) s.u }
@@ -243,12 +216,18 @@ impl Walk {
         if is_candidate(work, s, m, c) {
             self.turn(work, s, m, c, budget)
         } else {
-            Walked::Through(self)
+            Ok(self)
         }
     }
 
     // The candidates of one mode, in image order.
-    fn mode(self, work: &[u32; Work::CELLS], s: Subject, m: usize, budget: u32) -> Walked
+    fn mode(
+        self,
+        work: &[u32; Work::CELLS],
+        s: Subject,
+        m: usize,
+        budget: u32,
+    ) -> Result<Walk, Stopped>
         requires lent { Lent work.now }
         requires subject { IsSubject work.now s }
         requires m_bound { m < modes (table_of work.now) s.u }
@@ -256,24 +235,23 @@ impl Walk {
         ensures { result ≡ walked budget (walk_turns imposed (table_of work.now) s.u s.a (mode_turns (table_of work.now) s.u s.a m) (budget - self.used) (best_meant self.best)) }
     {
         if reads::time(work, s.u, m, s.a) == 0 {
-            return Walked::Through(self);
+            return Ok(self);
         }
         let count = reads::tasks(work, s.u);
         let mut state = self;
-        let mut c: usize = 0;
-        while c < count {
-            let step = state.candidate(work, s, m, c, budget);
-            let Walked::Through(next) = step else {
-                return step;
-            };
-            state = next;
-            c += 1;
+        for c in 0..count {
+            state = state.candidate(work, s, m, c, budget)?;
         }
-        Walked::Through(state)
+        Ok(state)
     }
 
     // The whole walk: the modes in ascending order.
-    pub(crate) fn modes(self, work: &[u32; Work::CELLS], s: Subject, budget: u32) -> Walked
+    pub(crate) fn modes(
+        self,
+        work: &[u32; Work::CELLS],
+        s: Subject,
+        budget: u32,
+    ) -> Result<Walk, Stopped>
         requires lent { Lent work.now }
         requires subject { IsSubject work.now s }
         requires used_le_budget { self.used ≤ budget }
@@ -281,15 +259,9 @@ impl Walk {
     {
         let count = reads::modes(work, s.u);
         let mut state = self;
-        let mut m: usize = 0;
-        while m < count {
-            let step = state.mode(work, s, m, budget);
-            let Walked::Through(next) = step else {
-                return step;
-            };
-            state = next;
-            m += 1;
+        for m in 0..count {
+            state = state.mode(work, s, m, budget)?;
         }
-        Walked::Through(state)
+        Ok(state)
     }
 }

@@ -1,7 +1,7 @@
 -- `fill` writes the cells of task after task. The invariant: the tasks below k have their cells, what lies behind is as it
 -- was, and the work cells are the table's. The measure is the number of tasks that are left.
 use mathlib.Core.Path.{◌≡◌, refl, sym, ap, ◌∙◌}
-use Prim.Native.Nat.{◌-◌, ◌*◌, ◌≤◌, ◌<◌, zero-le}
+use Prim.Native.Nat.{◌*◌, ◌≤◌, ◌<◌, zero-le}
 use native.Mathlib.Omega.{arith}
 use lib.ListN.{length}
 use borrow.Author.Tests.{leb-true, leb-false}

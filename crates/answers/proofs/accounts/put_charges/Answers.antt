@@ -1,7 +1,7 @@
 -- `put_charges` stores what each transaction charges, one after the other. The invariant: the groups of those before i are laid.
 use mathlib.Core.Path.{◌≡◌, ap, ap₂, ◌∙◌}
 use mathlib.Core.List.{List}
-use Prim.Native.Nat.{ℕ, ◌-◌, ◌<◌}
+use Prim.Native.Nat.{ℕ, ◌<◌}
 use native.Mathlib.Omega.{arith}
 use Rattle.row.specs.Row.{table_of}
 use Rattle.table.specs.Table.{transactions}

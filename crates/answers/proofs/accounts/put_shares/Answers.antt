@@ -1,7 +1,7 @@
 -- `put_shares` stores the shares of the subject's transaction, place by place. The invariant: the groups of the places before j are laid.
 use mathlib.Core.Path.{◌≡◌, ap₂, ◌∙◌}
 use mathlib.Core.List.{List}
-use Prim.Native.Nat.{ℕ, ◌-◌, ◌<◌}
+use Prim.Native.Nat.{ℕ, ◌<◌}
 use native.Mathlib.Omega.{arith}
 use Rattle.row.specs.Row.{table_of}
 use Rattle.table.specs.Table.{tasks}

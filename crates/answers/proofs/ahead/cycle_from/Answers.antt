@@ -1,6 +1,5 @@
 -- The loop goes the way from the mark again: so far it is a way of a cycle, of at most an evaluation a tick. Assumes nothing.
 use mathlib.Core.Path.{refl}
-use Prim.Native.Nat.{◌-◌}
 use native.Mathlib.Omega.{arith}
 use Rattle.cycle.specs.Cycle.{none}
 use Rattle.answers.proofs.Cycles.{way_on, way-ends}

@@ -1,7 +1,6 @@
 -- `chains::busy_chain` meets its contract. The loop's invariant: the chain that is left gives what the whole gives, and t and
 -- the mark are from 1 to the horizon. The measure is what is left of the budget.
 use mathlib.Core.Path.{sym, ◌∙◌}
-use Prim.Native.Nat.{◌-◌}
 use native.Mathlib.Omega.{arith}
 use Rattle.analysis.specs.Walk.{beyond?}
 use Rattle.analysis.proofs.Charges.{busy-some}

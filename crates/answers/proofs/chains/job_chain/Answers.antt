@@ -1,7 +1,6 @@
 -- `chains::job_chain` meets its contract. The loop's invariant: the chain that is left gives what the whole gives, and t has
 -- not passed the t that meets the job's demand. The measure is what is left of the budget.
 use mathlib.Core.Path.{sym, ◌∙◌}
-use Prim.Native.Nat.{◌-◌}
 use native.Mathlib.Nat.{le_trans}
 use Rattle.analysis.specs.Walk.{never?}
 use Rattle.answers.proofs.Chain.{left-all, left-came, left-on, left-none}

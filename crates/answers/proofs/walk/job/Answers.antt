@@ -1,5 +1,5 @@
 -- `walk::job` meets its contract: both numbers are small, so that their sum is a word.
-use lib.IntN.{ℤ, pos, ◌+ℤ◌}
+use lib.IntN.{pos, ◌+ℤ◌}
 use native.Mathlib.Omega.{arith}
 use Rattle.answers.proofs.Signed.{small, back, unsigned, mag-add}
 use Rattle.answers.proofs.walk.job.Goals as goal

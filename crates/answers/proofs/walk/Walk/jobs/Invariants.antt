@@ -10,8 +10,5 @@ abbrev pub invariant-loop-n : goal.invariant-loop-n
 invariant-loop-n l =
     Going l.budget
     (walk_jobs imposed (table_of l.work) l.s.u l.s.a l.x.mode l.x.candidate l.jobs.0 0 (l.budget - l.initial.state.used) (best_meant l.initial.state.best))
-    (walk_jobs imposed (table_of l.work) l.s.u l.s.a l.x.mode l.x.candidate (l.jobs.0 - l.n) l.n)
+    (walk_jobs imposed (table_of l.work) l.s.u l.s.a l.x.mode l.x.candidate (l.n-end - l.n) l.n)
     l.state
-
-abbrev pub decreases-loop-n : goal.decreases-loop-n
-decreases-loop-n l = l.count - l.n

@@ -12,6 +12,3 @@ invariant-loop-c l =
     (walk_turns imposed (table_of l.work) l.s.u l.s.a (mode_turns (table_of l.work) l.s.u l.s.a l.m) (l.budget - l.initial.state.used) (best_meant l.initial.state.best))
     (walk_turns imposed (table_of l.work) l.s.u l.s.a (turns_from (table_of l.work) l.s.u l.s.a l.m l.c (l.count - l.c)))
     l.state
-
-abbrev pub decreases-loop-c : goal.decreases-loop-c
-decreases-loop-c l = l.count - l.c

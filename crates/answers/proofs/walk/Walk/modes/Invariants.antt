@@ -13,6 +13,3 @@ invariant-loop-m l =
     (walk_turns imposed (table_of l.work) l.s.u l.s.a (walk_order (table_of l.work) l.s.u l.s.a) (l.budget - l.initial.state.used) (best_meant l.initial.state.best))
     (walk_turns imposed (table_of l.work) l.s.u l.s.a (modes_from (table_of l.work) l.s.u l.s.a l.m (l.count - l.m)))
     l.state
-
-abbrev pub decreases-loop-m : goal.decreases-loop-m
-decreases-loop-m l = l.count - l.m
