@@ -26,7 +26,8 @@ use Rattle.answers.specs.declared.chains.Stopped.{Stopped}
 use Rattle.answers.specs.declared.chains.Stopped.TheVariants.{Past, Short}
 use Rattle.answers.specs.declared.walk.Walk.{Walk}
 use Rattle.answers.specs.Lent.{tested}
-use Rattle.answers.specs.Turn.{Near, source_meant, best_said, walked}
+use Rattle.answers.specs.Near.{Near}
+use Rattle.answers.specs.Turn.{source_meant, best_said, walked}
 use Rattle.told.specs.Answered.{meant}
 use Rattle.answers.proofs.Instants.{jobs-few, job-near}
 

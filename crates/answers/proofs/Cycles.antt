@@ -1,7 +1,7 @@
 -- What counting cycles at once leaves of an L chain: the chain stays as it is, or goes on k whole cycles later.
 use mathlib.Core.Path.{◌≡◌, sym, ap, ap₂, subst, ◌∙◌}
 use mathlib.Core.Logic.{inr}
-use Prim.Native.Nat.{ℕ, ◌+◌, ◌-◌, ◌*◌, ◌/◌, ◌%◌, ◌≤◌, ◌<◌}
+use Prim.Native.Nat.{ℕ, ◌+◌, ◌-◌, ◌*◌, ◌/◌, ◌%◌, ◌≤◌}
 use native.Mathlib.Nat.{zero-mul, add-mul, one-mul, div-add-mod'}
 use native.Mathlib.Decide.{ℕ_discrete}
 use native.Mathlib.Numerals.{add-one}
@@ -28,10 +28,10 @@ left-goes {f} {r = r} left goes =
 
 -- ---- along one cycle
 
-pub way_on : {f : ℕ → ℕ} {D x n y end v : ℕ} → Way f D x n y → y < v → Follows f D end y v → Way f D x (n + 1) v
-way_on {f} {D} {n = n} {y = y} way rises follows =
+pub way_on : {f : ℕ → ℕ} {D x n y end v : ℕ} → Way f D x n y → Follows f D end y v → Way f D x (n + 1) v
+way_on {f} {D} {n = n} {y = y} way follows =
     let value = follows.value in
-    rw (value, add-one n) (next way (rw (← value) rises) (rw (← value) follows.again))
+    rw (value, add-one n) (next way (rw (← value) follows.above) (rw (← value) follows.again))
 
 pub way-ends : {f : ℕ → ℕ} {D x n y : ℕ} → Way f D x n y → y ≡ x + D → Cycle f D x n
 way-ends {f} {D} {x} {n} way e = subst (Way f D x n) e way
@@ -51,7 +51,7 @@ module _ {tab : Table} (kept : Kept tab) {u a : ℕ} (is_task : IsTask tab u a) 
       → H ≡ horizon
       → Met t
       → WholeFrames tab x t
-      → (¬ (n ≡ 0) → Cycle (busy tab u a m c) (t - x) x n)
+      → Cycle (busy tab u a m c) (t - x) x n
       → Rounds (t - x) n (H - t) left k
       → GoesOn (busy tab u a m c) left t (record { t = record { 0 = t + k * (t - x) }; evaluations = k * n; mark = record { 0 = t } })
   counted {x} {t} {n} {k} {left} {H} most met frames cycle rounds =
@@ -68,5 +68,5 @@ module _ {tab : Table} (kept : Kept tab) {u a : ℕ} (is_task : IsTask tab u a) 
           let whole : D ≡ frames.frames * tab.frame = omega (arith, frames.is) in
           let here : x + 1 * D ≡ t = omega (arith, frames.is, one-mul D) in
           let there : x + (1 + k) * D ≡ t + k * D = omega (arith, frames.is, add-mul 1 k D, one-mul D) in
-          let later = busy-rounds kept is_task setting (λ o. omega arith) frames.frames whole (cycle h) k 1 left rounds.evaluations (omega (arith, rounds.ticks)) in
+          let later = busy-rounds kept is_task setting (λ o. omega arith) frames.frames whole cycle k 1 left rounds.evaluations (omega (arith, rounds.ticks)) in
           ap (chain (busy tab u a m c) beyond? (left - k * n)) (sym there) ∙ sym later ∙ ap (chain (busy tab u a m c) beyond? left) here

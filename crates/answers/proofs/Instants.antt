@@ -22,9 +22,10 @@ use Rattle.analysis.proofs.Join.{jobs-by}
 use Rattle.analysis.proofs.Charges.{imposed-fair, demand-grows, start-below, job-below-busy, busy-some}
 use Rattle.std.specs.Prelude.{Result, Ok}
 use Rattle.answers.specs.declared.chains.Came.{Came}
-use Rattle.answers.specs.declared.chains.Instant.{Instant}
+use Rattle.answers.specs.declared.instant.Instant.{Instant}
 use Rattle.answers.specs.declared.chains.Stopped.{Stopped}
-use Rattle.answers.specs.Turn.{IsInstant, Near, Reaches, Lasts, stopped}
+use Rattle.answers.specs.Near.{Near}
+use Rattle.answers.specs.Turn.{IsInstant, Reaches, Lasts, stopped}
 use Rattle.answers.proofs.Chain.{Comes, chain-comes}
 use Rattle.charge.proofs.Ranges.{held-of-lt}
 use Rattle.answers.proofs.Signed.{mag-diff, mag-shift, times-le}
@@ -33,11 +34,11 @@ module _ {tab : Table} (kept : Kept tab) {u a : ℕ} (is_task : IsTask tab u a) 
   T : 0 < period tab u
   T = kept-period kept is_task.owner
 
-  blocking-lt : blocking tab u a < 2 ^ 24
+  pub blocking-lt : blocking tab u a < 2 ^ 24
   unfolding blocking task tasks
   blocking-lt = ((kept.each u is_task.owner).each a is_task.place).blocking
 
-  phase-period : (c : ℕ) → phase_of tab u c a < period tab u
+  pub phase-period : (c : ℕ) → phase_of tab u c a < period tab u
   unfolding phase_of
   phase-period c = phase-lt T _ _
 
@@ -66,7 +67,7 @@ module _ {tab : Table} (kept : Kept tab) {u a : ℕ} (is_task : IsTask tab u a) 
   -- ---- what a turn holds
 
   module _ {m c : ℕ} {x : Instant} (instant : IsInstant tab u a m c x) where
-    pub instant-first : Near x.first.0
+    pub instant-first : Near x.first.number
     unfolding first_job
     instant-first =
         let h = held_of tab u c a in
@@ -90,7 +91,7 @@ module _ {tab : Table} (kept : Kept tab) {u a : ℕ} (is_task : IsTask tab u a) 
     pub instant-candidate : IsTask tab u c
     instant-candidate = record { owner = is_task.owner; place = instant.setting.place }
 
-    pub instant-start : (p : ℤ) → x.blocking.0 + count (p -ℤ x.first.0 +ℤ pos 1) * x.time.0 ≡ start tab u a m c p
+    pub instant-start : (p : ℤ) → x.blocking.0 + count (p -ℤ x.first.number +ℤ pos 1) * x.time.0 ≡ start tab u a m c p
     unfolding start jobs_to
     instant-start p = rw (instant.blocking, instant.first, instant.time) refl
 
@@ -98,11 +99,11 @@ module _ {tab : Table} (kept : Kept tab) {u a : ℕ} (is_task : IsTask tab u a) 
     unfolding last_job
     instant-last t = rw (instant.phase, instant.period) refl
 
-    pub instant-job : (N : ℕ) → x.first.0 +ℤ pos N ≡ job tab u a c N
+    pub instant-job : (N : ℕ) → x.first.number +ℤ pos N ≡ job tab u a c N
     unfolding job
     instant-job N = rw instant.first refl
 
-    pub instant-jobs : (p : ℤ) → count (p -ℤ x.first.0 +ℤ pos 1) ≡ jobs_to tab u a c p
+    pub instant-jobs : (p : ℤ) → count (p -ℤ x.first.number +ℤ pos 1) ≡ jobs_to tab u a c p
     unfolding jobs_to
     instant-jobs p = rw instant.first refl
 
@@ -117,8 +118,8 @@ module _ {tab : Table} (kept : Kept tab) {u a : ℕ} (is_task : IsTask tab u a) 
     pub instant-own : IsInstant tab u a x.mode x.candidate x
     instant-own = subst₂ (λ (n k : ℕ). IsInstant tab u a n k x) (sym instant.mode) (sym instant.candidate) instant
 
-    pub start-le : (p : ℤ) → Near p → x.blocking.0 + count (p -ℤ x.first.0 +ℤ pos 1) * x.time.0 < 2 ^ 53
-    start-le p near = omega (arith, instant-blocking, times-le p x.first.0 x.time.0 near instant-first instant-time)
+    pub start-le : (p : ℤ) → Near p → x.blocking.0 + count (p -ℤ x.first.number +ℤ pos 1) * x.time.0 < 2 ^ 53
+    start-le p near = omega (arith, instant-blocking, times-le p x.first.number x.time.0 near instant-first instant-time)
 
   -- ---- demands
 
@@ -166,14 +167,14 @@ module _ {tab : Table} (kept : Kept tab) {u a : ℕ} (is_task : IsTask tab u a) 
       pub came-near : Near p
       came-near = rw (last, instant-last instant came.t.0) (last-near c came-within)
 
-      pub came-jobs : {n : ℕ} → n ≡ count (p -ℤ x.first.0 +ℤ pos 1) → n ≡ jobs_to tab u a c (last_job tab u a c came.t.0)
+      pub came-jobs : {n : ℕ} → n ≡ count (p -ℤ x.first.number +ℤ pos 1) → n ≡ jobs_to tab u a c (last_job tab u a c came.t.0)
       came-jobs few = few ∙ instant-jobs instant p ∙ ap (jobs_to tab u a c) (last ∙ instant-last instant came.t.0)
 
-      pub came-lasts : {n : ℕ} → n ≡ count (p -ℤ x.first.0 +ℤ pos 1) → Lasts tab u a m c n
+      pub came-lasts : {n : ℕ} → n ≡ count (p -ℤ x.first.number +ℤ pos 1) → Lasts tab u a m c n
       came-lasts few = record { L = came.t.0; some = came-some; within = came-within; enough = le_of_eq busy-comes.0.1; jobs = came-jobs few }
 
   -- the N-th job of a turn
-  module _ {m c n N : ℕ} {x : Instant} {p : ℤ} (instant : IsInstant tab u a m c x) (lasts : Lasts tab u a m c n) (l : N < n) (is : p ≡ x.first.0 +ℤ pos N) where
+  module _ {m c n N : ℕ} {x : Instant} {p : ℤ} (instant : IsInstant tab u a m c x) (lasts : Lasts tab u a m c n) (l : N < n) (is : p ≡ x.first.number +ℤ pos N) where
     pub nth-number : p ≡ job tab u a c N
     nth-number = is ∙ instant-job instant N
 

@@ -5,13 +5,18 @@ use mathlib.Core.Bool.{true, false, not}
 use lib.IntN.{ℤ, pos, negsuc, neg_ℤ, sub_ℕ, nat_abs, ◌+ℤ◌, ◌-ℤ◌, ◌*ℤ◌}
 use lib.Signed.{mag, lt_z, non_neg, nat_abs-le}
 use lib.Dec.{T}
-use Prim.Native.Nat.{ℕ, zero, suc, ◌+◌, ◌*◌, ◌≤◌, ◌<◌, ◌^◌, max}
-use native.Mathlib.Nat.{le_refl, mul-le-mul}
+use Prim.Native.Nat.{ℕ, zero, suc, ◌+◌, ◌-◌, ◌*◌, ◌/◌, ◌%◌, ◌≤◌, ◌<◌, ◌^◌, min, max}
+use native.Mathlib.Nat.{le_refl, mul-le-mul, add-mul}
 use native.Mathlib.Omega.{arith}
 use mir.Syntax.{w64}
 use mir.Val.{Fits, SFits, to_z, of_z}
 use mir.Facts.{to_z-of_z, to_z_pos}
 use borrow.Author.Tests.{ltb-true, ltb-false, lt-ltb, le-ltb}
+use Rattle.std.specs.Int.{int_max, div_ceil}
+use Rattle.std.proofs.lemmas.Grind.{div_ceil_times}
+use Rattle.std.proofs.lemmas.Int.{ints, clamps}
+use Rattle.std.proofs.Math.Nat.{div-eq_of_lt-le}
+use Rattle.periods.specs.Phase.{ceil}
 use Rattle.periods.proofs.Difference.{Diff, subℕ-diff}
 use Rattle.analysis.specs.Choice.{count}
 
@@ -134,3 +139,36 @@ pub times-le : (p f : ℤ) (C : ℕ) → mag p < 2 ^ 26 → mag f < 2 ^ 26 → C
 times-le p f C hp hf hc =
     let few : count (p -ℤ f +ℤ pos 1) ≤ 2 ^ 28 = omega (arith, count-mag (p -ℤ f +ℤ pos 1), mag-add (p -ℤ f) (pos 1), mag-sub p f) in
     mul-le-mul {n₂ = 2 ^ 28} {m₂ = 2 ^ 24} few (omega arith)
+
+-- R − O + a in words, where it is not below 0
+pub completes-word : (R O : ℕ) (a : ℤ) → R < 2 ^ 32 → O < 2 ^ 24 → mag a < 2 ^ 52 → T (non_neg (pos R -ℤ pos O +ℤ a)) → nat_abs (to_z w64 (of_z w64 (to_z w64 (of_z w64 (to_z w64 R -ℤ to_z w64 O)) +ℤ to_z w64 (of_z w64 a)))) ≡ count (pos R -ℤ pos O +ℤ a)
+completes-word R O a r o l up =
+    let word : to_z w64 (of_z w64 (to_z w64 (of_z w64 (to_z w64 R -ℤ to_z w64 O)) +ℤ to_z w64 (of_z w64 a))) ≡ pos R -ℤ pos O +ℤ a = omega (arith, ints) in
+    rw word (count-abs (pos R -ℤ pos O +ℤ a) up)
+
+-- what is cut at 0
+cut-count : (z : ℤ) {r : ℤ} → r ≡ int_max z (pos 0) → mag r < 2 ^ 63 → nat_abs (to_z w64 (of_z w64 r)) ≡ count z
+unfolding count
+cut-count (pos n) {r} m s =
+    let cut : r ≡ pos n = omega (arith, ints, clamps, m) in
+    rw (to_z-of_z {w = w64} {z = r} (record { sfits = s }), cut) refl
+cut-count (negsuc n) {r} m s =
+    let cut : r ≡ pos 0 = omega (arith, ints, clamps, m) in
+    rw cut refl
+
+-- p − f + 1 in words, cut at 0
+pub jobs-word : (p f : ℤ) {r : ℤ} → mag p < 2 ^ 26 → mag f < 2 ^ 26 → r ≡ int_max (to_z w64 (of_z w64 (to_z w64 (of_z w64 (to_z w64 (of_z w64 p) -ℤ to_z w64 (of_z w64 f))) +ℤ pos 1))) (pos 0) → mag r < 2 ^ 63 → nat_abs (to_z w64 (of_z w64 r)) ≡ count (p -ℤ f +ℤ pos 1)
+jobs-word p f hp hf m s =
+    let word : to_z w64 (of_z w64 (to_z w64 (of_z w64 (to_z w64 (of_z w64 p) -ℤ to_z w64 (of_z w64 f))) +ℤ pos 1)) ≡ p -ℤ f +ℤ pos 1 = omega (arith, ints) in
+    cut-count (p -ℤ f +ℤ pos 1) (rw word at m) s
+
+-- w − a + O in words, cut at 0
+pub response-word : (w O : ℕ) (a : ℤ) {r : ℤ} → w < 2 ^ 24 → O < 2 ^ 24 → mag a < 2 ^ 52 → r ≡ int_max (to_z w64 (of_z w64 (to_z w64 (of_z w64 (to_z w64 w -ℤ to_z w64 (of_z w64 a))) +ℤ to_z w64 O))) (pos 0) → mag r < 2 ^ 63 → nat_abs (to_z w64 (of_z w64 r)) ≡ count (pos w -ℤ a +ℤ pos O)
+response-word w O a hw ho ha m s =
+    let word : to_z w64 (of_z w64 (to_z w64 (of_z w64 (to_z w64 w -ℤ to_z w64 (of_z w64 a))) +ℤ to_z w64 O)) ≡ pos w -ℤ a +ℤ pos O = omega (arith, ints) in
+    cut-count (pos w -ℤ a +ℤ pos O) (rw word at m) s
+
+-- s / T, rounded up, is the library's
+pub div_ceil-is : (s T : ℕ) → 0 < T → div_ceil s T ≡ ceil s T
+unfolding ceil
+div_ceil-is s T h = let (l, r) = div_ceil_times s T h in sym (div-eq_of_lt-le T {m = s + (T - 1)} (omega (arith, l, r)) (omega (arith, l, r, add-mul (s / T + min 1 (s % T)) 1 T)))

@@ -1,5 +1,5 @@
 -- What counting whole cycles of an L chain at once says of the chain, in the code's own types.
-use Rattle.std.specs.Prelude.{◌≡◌, ℕ, ◌+◌, ◌*◌, ◌-◌, ◌≤◌}
+use Rattle.std.specs.Prelude.{◌≡◌, ℕ, ◌+◌, ◌*◌, ◌-◌, ◌≤◌, ◌<◌}
 use Rattle.table.specs.Table.{Table}
 use Rattle.table.specs.Limits.{horizon}
 use Rattle.analysis.specs.Walk.{chain, beyond?}
@@ -9,9 +9,10 @@ use Rattle.answers.specs.declared.ahead.Ahead.{Ahead}
 abbrev pub Met : ℕ → Type 0
 Met t = (1 ≤ t) × (t ≤ horizon)
 
--- v is the value at z, not beyond the end, and comes again D later
+-- v is the value at z, above it and not beyond the end, and comes again D later
 pub record Follows (f : ℕ → ℕ) (D end z v : ℕ) : Type 0 where
   pub value : v ≡ f z
+  pub above : z < v
   pub within : v ≤ end
   pub again : f (z + D) ≡ v + D
 

@@ -1,4 +1,5 @@
 pub mod Lent
+pub mod Near
 pub mod Turn
 pub mod Ahead
 pub mod Work

@@ -1,6 +1,5 @@
 -- What a turn of the walk and its chains are, in the code's own types.
-use Rattle.std.specs.Prelude.{◌≡◌, ℤ, ℕ, ◌-◌, ◌≤◌, ◌<◌, ◌^◌, Result, Ok, Err}
-use Rattle.std.specs.Int.Signed.{mag}
+use Rattle.std.specs.Prelude.{◌≡◌, ℤ, ℕ, ◌-◌, ◌≤◌, Result, Ok, Err}
 use Rattle.table.specs.Table.{Table, period, tasks, offset, blocking, time}
 use Rattle.table.specs.Limits.{horizon}
 use Rattle.periods.specs.Charge.{imposed}
@@ -13,7 +12,7 @@ use Rattle.analysis.specs.Order.{Turn, from}
 use Rattle.analysis.specs.Rival.{runs?, candidate?}
 use Rattle.analysis.specs.Walk as walk
 use Rattle.analysis.specs.Walk.{ended, through, past}
-use Rattle.answers.specs.declared.chains.Instant.{Instant}
+use Rattle.answers.specs.declared.instant.Instant.{Instant}
 use Rattle.answers.specs.declared.chains.Came.{Came}
 use Rattle.answers.specs.declared.chains.Stopped.{Stopped}
 use Rattle.answers.specs.declared.chains.Stopped.TheVariants.{Past, Short}
@@ -31,11 +30,7 @@ pub record IsInstant (tab : Table) (u a m c : ℕ) (x : Instant) : Type 0 where
   pub blocking : x.blocking.0 ≡ blocking tab u a
   pub time : x.time.0 ≡ time tab u m a
   pub phase : x.phase.0 ≡ phase_of tab u c a
-  pub first : x.first.0 ≡ first_job tab u a c
-
--- a job number that no sum of a few takes out of 64 bits
-abbrev pub Near : ℤ → Type 0
-Near p = mag p < 2 ^ 26
+  pub first : x.first.number ≡ first_job tab u a c
 
 -- some t within the horizon satisfies the demand of job p, so that its chain ends there at the latest
 pub record Reaches (tab : Table) (u a m c : ℕ) (p : ℤ) : Type 0 where

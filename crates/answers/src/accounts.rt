@@ -10,7 +10,7 @@ ghost use Rattle.answers.specs.Work.{work_cells, Lent, IsSubject};
 
 use super::charges::{Split, Subject};
 use super::layout::Work;
-use super::pushed::Explained;
+use super::pushed::Bounded;
 use super::quantity::Ticks;
 use super::walk::Source;
 use super::{answers, charges, links, pushed, reads, work};
@@ -32,7 +32,7 @@ fn share(work: &[u32; Work::CELLS], s: Subject, m: usize, c: usize, x: Split, j:
     Share {
         phase,
         held: held as u32,
-        ticks: jobs * reads::wide(weight) + reads::wide(rest),
+        ticks: jobs * u64::from(weight) + u64::from(rest),
     }
 }
 
@@ -50,14 +50,9 @@ fn put_shares(
     requires candidate_bound { by.candidate < tasks (table_of work.now) s.u }
     ensures { cells.new ≡ laid shares_cell (tasks (table_of work.now) s.u) (λ j. share_cells (share_of (table_of work.now) s.u s.a (record { mode = by.mode; candidate = by.candidate }) t j)) cells.old }
 {
-    let x = charges::split_of(work, s.u, Ticks(reads::wide(t)));
-    let m = by.mode;
-    let c = by.candidate;
-    let count = x.count;
-    let mut j: usize = 0;
-    while j < count {
-        share(work, s, m, c, x, j).put(cells, j);
-        j += 1;
+    let x = charges::split_of(work, s.u, Ticks(u64::from(t)));
+    for j in 0..x.count {
+        share(work, s, by.mode, by.candidate, x, j).put(cells, j);
     }
 }
 
@@ -68,10 +63,8 @@ fn put_charges(work: &[u32; Work::CELLS], s: Subject, t: u32, cells: &mut [u64; 
     ensures { cells.new ≡ laid charges_cell (transactions (table_of work.now)) (λ i. charge_cells (charge_of (table_of work.now) s.u s.a t i)) cells.old }
 {
     let count = reads::transactions(work);
-    let mut i: usize = 0;
-    while i < count {
+    for i in 0..count {
         Account::put_charge(pushed::charged(work, s, false, i, t), cells, i);
-        i += 1;
     }
 }
 
@@ -87,12 +80,14 @@ fn subject_account(
     ensures { AccountFor budget cells.old (table_of work.now) s.u s.a (result, cells.new) }
 {
     let deadline = Table::deadline(work, reads::number(work, s.u, s.a));
-    match pushed::explain(work, s, budget) {
-        Explained::Unbounded(answer) => Account::Unbounded(answer.cells(deadline)),
-        Explained::Bounded(answer, by, parts) => {
+    let explained = pushed::explain(work, s, budget);
+    let told = explained.answer.cells(deadline);
+    match explained.bounded {
+        None => Account::Unbounded(told),
+        Some(Bounded { by, parts }) => {
             put_charges(work, s, parts.completion, cells);
             put_shares(work, s, by, parts.completion, cells);
-            Account::Bounded(answer.cells(deadline), parts)
+            Account::Bounded(told, parts)
         }
     }
 }

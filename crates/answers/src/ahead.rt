@@ -1,7 +1,7 @@
 // Whole cycles of the L chain at once. A mark stays behind at some t; where the chain has come whole major frames further, the
 // way from the mark is gone once more, each evaluation beside the one that much later. If all of them agree it is a cycle, and
 // as many more as there is room for are counted and not walked.
-ghost use Rattle.std.specs.Prelude.{◌≡◌, ◌+◌, ◌<◌, ◌≤◌};
+ghost use Rattle.std.specs.Prelude.{◌≡◌, ◌+◌, ◌<◌, ◌≤◌, IfSome};
 ghost use Rattle.row.specs.Row.{table_of};
 ghost use Rattle.table.specs.Limits.{horizon};
 ghost use Rattle.analysis.specs.Bound.{busy};
@@ -10,8 +10,8 @@ ghost use Rattle.answers.specs.Turn.{IsInstant};
 ghost use Rattle.answers.specs.Ahead.{Met, Follows, WholeFrames, GoesOn};
 ghost use Rattle.answers.specs.Work.{Lent, IsSubject};
 
-use super::chains::Instant;
 use super::charges::Subject;
+use super::instant::Instant;
 use super::layout::Work;
 use super::quantity::Ticks;
 use super::{chains, overload, reads};
@@ -25,7 +25,7 @@ pub(crate) struct Ahead {
     pub(crate) mark: Ticks,
 }
 
-// The value at z, if it lies above z, not beyond the end, and comes again `far` later; else z itself.
+// The value at z, if it lies above z, not beyond the end, and comes again `far` later.
 fn follower(
     work: &[u32; Work::CELLS],
     s: Subject,
@@ -33,47 +33,46 @@ fn follower(
     far: Ticks,
     end: Ticks,
     z: Ticks,
-) -> Ticks
+) -> Option<Ticks>
     requires lent { Lent work.now }
     requires subject { IsSubject work.now s }
     requires instant { IsInstant (table_of work.now) s.u s.a x.mode x.candidate x }
     requires le_z { 1 ≤ z.0 }
     requires far_bound { z.0 + far.0 ≤ horizon }
     requires end_le_horizon { end.0 ≤ horizon }
-    ensures { z.0 < result.0 → Follows (busy (table_of work.now) s.u s.a x.mode x.candidate) far.0 end.0 z.0 result.0 }
+    ensures { IfSome result (λ v. Follows (busy (table_of work.now) s.u s.a x.mode x.candidate) far.0 end.0 z.0 v.0) }
 {
     let value = chains::busy(work, s, x, z);
-    if value.0 <= z.0 {
-        return z;
-    }
-    if end.0 < value.0 {
-        return z;
+    if value.0 <= z.0 || end.0 < value.0 {
+        return None;
     }
     let later = chains::busy(work, s, x, Ticks(z.0 + far.0));
-    if later.0 == value.0 + far.0 { value } else { z }
+    (later.0 == value.0 + far.0).then_some(value)
 }
 
-// The evaluations of the cycle that begins at the mark, or 0 if it is none.
-fn cycle_from(work: &[u32; Work::CELLS], s: Subject, x: Instant, far: Ticks, mark: Ticks) -> u32
+// The evaluations of the cycle that begins at the mark, if it is one.
+fn cycle_from(
+    work: &[u32; Work::CELLS],
+    s: Subject,
+    x: Instant,
+    far: Ticks,
+    mark: Ticks,
+) -> Option<u32>
     requires lent { Lent work.now }
     requires subject { IsSubject work.now s }
     requires instant { IsInstant (table_of work.now) s.u s.a x.mode x.candidate x }
     requires le_mark { 1 ≤ mark.0 }
     requires far_bound { mark.0 + far.0 + far.0 ≤ horizon }
-    ensures { ¬ (result ≡ 0) → Cycle (busy (table_of work.now) s.u s.a x.mode x.candidate) far.0 mark.0 result }
+    ensures { IfSome result (Cycle (busy (table_of work.now) s.u s.a x.mode x.candidate) far.0 mark.0) }
 {
     let end = Ticks(mark.0 + far.0);
     let mut z = mark;
     let mut evaluations: u32 = 0;
     while z.0 < end.0 {
-        let value = follower(work, s, x, far, end, z);
-        if value.0 <= z.0 {
-            return 0;
-        }
-        z = value;
+        z = follower(work, s, x, far, end, z)?;
         evaluations += 1;
     }
-    evaluations
+    Some(evaluations)
 }
 
 // The chain at t, whole major frames after the mark: cycles can only come again that leave no tick of a frame free.
@@ -94,26 +93,22 @@ fn after_frames(
     ensures { GoesOn (busy (table_of work.now) s.u s.a x.mode x.candidate) left t.0 result }
 {
     let far = Ticks(t.0 - mark.0);
-    let room = reads::wide(Table::horizon()) - t.0;
+    let room = u64::from(Table::horizon()) - t.0;
+    let here = Ahead {
+        t,
+        evaluations: 0,
+        mark: t,
+    };
     // to see a cycle costs two evaluations for each of its own: it pays where three more have room
-    if room < 3 * far.0 {
-        return Ahead {
-            t,
-            evaluations: 0,
-            mark: t,
-        };
+    if room < 3 * far.0 || overload::frame_demand(work, s) != reads::frame(work) {
+        return here;
     }
-    if overload::frame_demand(work, s) != reads::frame(work) {
-        return Ahead {
-            t,
-            evaluations: 0,
-            mark: t,
-        };
-    }
-    let evaluations = cycle_from(work, s, x, far, mark);
+    let Some(evaluations) = cycle_from(work, s, x, far, mark) else {
+        return here;
+    };
     let rounds = cycle::rounds(far.0, evaluations, room, left);
     Ahead {
-        t: Ticks(t.0 + rounds as u64 * far.0),
+        t: Ticks(t.0 + u64::from(rounds) * far.0),
         evaluations: rounds * evaluations,
         mark: t,
     }

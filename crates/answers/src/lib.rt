@@ -21,6 +21,7 @@ mod ahead;
 mod answers;
 mod chains;
 mod charges;
+mod instant;
 mod layout;
 mod lent;
 mod links;
@@ -41,10 +42,8 @@ fn fill(work: &mut [u32; Work::CELLS], budget: u32, cells: &mut [u32]) -> Filled
     let count = reads::in_all(&*work);
     if TaskCells::have_room(cells.len(), count) {
         work::prepare(work);
-        let mut k: usize = 0;
-        while k < count {
+        for k in 0..count {
             answers::task_cells(work, k, budget).put(cells, k);
-            k += 1;
         }
         return Filled::Done(count);
     }
@@ -83,7 +82,7 @@ pub fn response(image: &[u8], task: u32, budget: u32) -> u64
     let mut working = [0u32; Work::CELLS];
     match image::read_in_front(image, &mut working) {
         Answer::Refused(refusal, at) => told::pair(refusal.number(), at as u32),
-        Answer::Accepted => response_of(&mut working, reads::index(task), budget),
+        Answer::Accepted => response_of(&mut working, task as usize, budget),
     }
 }
 
@@ -94,7 +93,7 @@ pub fn parts(image: &[u8], task: u32, budget: u32) -> Made
     let mut working = [0u32; Work::CELLS];
     match image::read_in_front(image, &mut working) {
         Answer::Refused(refusal, at) => Made::Refused(refusal, at),
-        Answer::Accepted => pushed::parts_from(&mut working, reads::index(task), budget),
+        Answer::Accepted => pushed::parts_from(&mut working, task as usize, budget),
     }
 }
 
@@ -105,9 +104,7 @@ pub fn account(image: &[u8], task: u32, budget: u32, cells: &mut [u64; Account::
     let mut working = [0u32; Work::CELLS];
     match image::read_in_front(image, &mut working) {
         Answer::Refused(refusal, at) => Account::Refused(refusal, at),
-        Answer::Accepted => {
-            accounts::account_from(&mut working, reads::index(task), budget, cells)
-        }
+        Answer::Accepted => { accounts::account_from(&mut working, task as usize, budget, cells) }
     }
 }
 
@@ -120,8 +117,8 @@ pub fn charge(image: &[u8], task: u32, transaction: u32, whole: bool, t: u32) ->
         Answer::Refused(refusal, at) => Part::Refused(refusal, at),
         Answer::Accepted => pushed::charge_from(
             &mut working,
-            reads::index(task),
-            reads::index(transaction),
+            task as usize,
+            transaction as usize,
             whole,
             t,
         ),

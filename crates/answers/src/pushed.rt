@@ -1,9 +1,7 @@
 // Who pushed a task: what its bound is made of, and what one transaction charges it.
-ghost use Rattle.std.specs.Prelude.{◌≡◌, T, length, pos, ◌+ℤ◌, ◌-ℤ◌, ◌<◌, ◌^◌};
-ghost use Rattle.std.specs.Int.Signed.{mag, non_neg};
+ghost use Rattle.std.specs.Prelude.{◌≡◌, length};
 ghost use Rattle.row.specs.Row.{table_of, RowOfTable};
 ghost use Rattle.periods.specs.Charge.{imposed};
-ghost use Rattle.analysis.specs.Choice.{count};
 ghost use Rattle.analysis.specs.Parts.{MadeOf};
 ghost use Rattle.analysis.specs.Who.{BoundBy};
 ghost use Rattle.charge.specs.Later.{later_of};
@@ -15,24 +13,15 @@ ghost use Rattle.answers.specs.Turn.{source_meant};
 ghost use Rattle.answers.specs.Work.{work_cells, Lent, IsSubject};
 
 use super::charges::Subject;
+use super::instant::Instant;
 use super::layout::Work;
 use super::lent::Linked;
-use super::quantity::{Moment, Ticks};
+use super::quantity::Ticks;
 use super::walk::Source;
-use super::{answers, chains, charges, reads, walk, work};
+use super::{answers, charges, reads, work};
 use parts::{Charge, Made, Part, Parts};
 use refusals::Refusal;
 use told::TaskAnswer;
-
-// The completion of the job that has a bound, found back from it: the bound is completion − arrival + offset.
-fn completion(bound: u32, offset: Ticks, arrives: Moment) -> Ticks
-    requires offset_bound { offset.0 < 2 ^ 24 }
-    requires arrives_bound { mag arrives.0 < 2 ^ 52 }
-    requires t { T (non_neg (pos bound -ℤ pos offset.0 +ℤ arrives.0)) }
-    ensures { result.0 ≡ count (pos bound -ℤ pos offset.0 +ℤ arrives.0) }
-{
-    Ticks((bound as i64 - offset.0 as i64 + arrives.0) as u64)
-}
 
 // The parts of a bound of the subject, by the job that gives it.
 fn parts_of(work: &[u32; Work::CELLS], s: Subject, bound: u32, by: Source) -> Parts
@@ -41,31 +30,33 @@ fn parts_of(work: &[u32; Work::CELLS], s: Subject, bound: u32, by: Source) -> Pa
     requires bound_by { BoundBy imposed (table_of work.now) s.u s.a bound (source_meant by) }
     ensures { MadeOf (table_of work.now) s.u s.a bound (source_meant by) (parts_meant result) }
 {
-    let x = chains::instant_of(work, s, by.mode, by.candidate);
-    let n = by.job;
-    let first = x.first;
-    let period = x.period;
-    let phase = x.phase;
-    let offset = x.offset;
-    let arrives = walk::arrival(period, phase, walk::job(first, n));
-    let w = completion(bound, offset, arrives);
+    let x = Instant::of(work, s, by.mode, by.candidate);
+    let arrives = x.arrival(x.job(by.job));
+    let w = x.completion(bound, arrives);
     let own = charges::split_of(work, s.u, w);
     let rivals = charges::charge(work, s, false, s.u, by.mode, by.candidate, own);
     Parts {
         completion: w.0 as u32,
         arrival: arrives.0,
-        offset: offset.0 as u32,
+        offset: x.offset.0 as u32,
         blocking: x.blocking.0 as u32,
-        jobs: ((n.0 + 1) * x.time.0) as u32,
+        jobs: ((by.job.0 + 1) * x.time.0) as u32,
         rivals: rivals.0 as u32,
     }
 }
 
-// An answer, and of a bound the job that gives it and its parts.
+// What gives a bound: the job, and the parts.
 #[derive(Clone, Copy)]
-pub(crate) enum Explained {
-    Unbounded(TaskAnswer),
-    Bounded(TaskAnswer, Source, Parts),
+pub(crate) struct Bounded {
+    pub(crate) by: Source,
+    pub(crate) parts: Parts,
+}
+
+// An answer, and where it is a bound what gives it.
+#[derive(Clone, Copy)]
+pub(crate) struct Explained {
+    pub(crate) answer: TaskAnswer,
+    pub(crate) bounded: Option<Bounded>,
 }
 
 // The answer of the subject under a budget, explained.
@@ -76,10 +67,17 @@ pub(crate) fn explain(work: &[u32; Work::CELLS], s: Subject, budget: u32) -> Exp
 {
     let answer = answers::answer(work, s, budget);
     let TaskAnswer::Bound(bound, _, by) = answer else {
-        return Explained::Unbounded(answer);
+        return Explained {
+            answer,
+            bounded: None,
+        };
     };
-    let source = answers::source(work, s.u, by);
-    Explained::Bounded(answer, source, parts_of(work, s, bound, source))
+    let by = answers::source(work, s.u, by);
+    let parts = parts_of(work, s, bound, by);
+    Explained {
+        answer,
+        bounded: Some(Bounded { by, parts }),
+    }
 }
 
 // What the subject's bound under a budget is made of, where it has one.
@@ -88,9 +86,9 @@ fn made(work: &[u32; Work::CELLS], s: Subject, budget: u32) -> Made
     requires subject { IsSubject work.now s }
     ensures { MadeFor budget (table_of work.now) s.u s.a result }
 {
-    match explain(work, s, budget) {
-        Explained::Unbounded(_) => Made::NoBound,
-        Explained::Bounded(_, _, parts) => Made::Of(parts),
+    match explain(work, s, budget).bounded {
+        None => Made::NoBound,
+        Some(Bounded { parts, .. }) => Made::Of(parts),
     }
 }
 

@@ -1,6 +1,8 @@
 // Ticks and jobs: two sorts of quantity. They are joined where an arrival is worked out, where jobs take their time, and where
 // the last job by t is asked for.
 
+ghost use Rattle.answers.specs.Near.{Near};
+
 // A time, or a length of time, from the critical instant on.
 #[derive(Clone, Copy)]
 pub(crate) struct Ticks(pub(crate) u64);
@@ -11,7 +13,10 @@ pub(crate) struct Jobs(pub(crate) u64);
 
 // The number of a job of the task under analysis; 0 or below for those held back to the instant.
 #[derive(Clone, Copy)]
-pub(crate) struct JobNumber(pub(crate) i64);
+pub(crate) struct JobNumber {
+    pub(crate) number: i64,
+    ghost near: { Near number },
+}
 
 // A tick that may lie before the critical instant.
 #[derive(Clone, Copy)]

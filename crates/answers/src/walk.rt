@@ -1,23 +1,22 @@
 // The walk of one task: its modes, in each its candidates, and for each the L chain and then the jobs, lowest first. The
 // state goes in by value and comes back, with the count of evaluations and the greatest response so far.
-ghost use Rattle.std.specs.Prelude.{◌≡◌, pos, ◌+ℤ◌, ◌-ℤ◌, ◌*ℤ◌, ◌-◌, ◌<◌, ◌≤◌, ◌^◌};
+ghost use Rattle.std.specs.Prelude.{◌≡◌, ◌-◌, ◌<◌, ◌≤◌};
 ghost use Rattle.row.specs.Row.{table_of};
-ghost use Rattle.table.specs.Limits.{horizon};
 ghost use Rattle.table.specs.Table.{modes, tasks};
 ghost use Rattle.periods.specs.Charge.{imposed};
-ghost use Rattle.analysis.specs.Choice.{count};
 ghost use Rattle.analysis.specs.Rival.{Runs, candidate?};
 ghost use Rattle.analysis.specs.Bound.{Setting};
 ghost use Rattle.analysis.specs.Order.{walk_order};
 ghost use Rattle.analysis.specs.Walk.{nothing, better, walk_jobs, walk_turn, walk_turns};
 ghost use Rattle.answers.specs.Lent.{tested};
-ghost use Rattle.answers.specs.Turn.{IsInstant, Near, Lasts, best_meant, walked, turns_from, mode_turns};
+ghost use Rattle.answers.specs.Turn.{IsInstant, Lasts, best_meant, walked, turns_from, mode_turns};
 ghost use Rattle.answers.specs.Work.{Lent, IsSubject};
 
-use super::chains::{Instant, Stopped};
+use super::chains::Stopped;
 use super::charges::Subject;
+use super::instant::Instant;
 use super::layout::Work;
-use super::quantity::{JobNumber, Jobs, Moment, Ticks};
+use super::quantity::{Jobs, Ticks};
 use super::{chains, links, reads};
 
 // A job of the walk: mode, candidate, and the job counted from the candidate's first.
@@ -40,43 +39,6 @@ pub(crate) struct Best {
 pub(crate) struct Walk {
     pub(crate) used: u32,
     pub(crate) best: Best,
-}
-
-// The arrival of job p, F + (p − 1)·T: here ticks and job numbers are joined.
-pub(crate) fn arrival(period: Ticks, phase: Ticks, p: JobNumber) -> Moment
-    requires period_bound { period.0 < 2 ^ 24 }
-    requires phase_bound { phase.0 < 2 ^ 24 }
-    requires near { Near p.0 }
-    ensures { result.0 ≡ pos phase.0 +ℤ (p.0 -ℤ pos 1) *ℤ pos period.0 }
-{
-    Moment(phase.0 as i64 + (p.0 - 1) * period.0 as i64)
-}
-
-// The response of job p that completes at w, cut at 0.
-fn response(x: Instant, p: JobNumber, w: Ticks) -> Ticks
-    requires period_bound { x.period.0 < 2 ^ 24 }
-    requires phase_bound { x.phase.0 < 2 ^ 24 }
-    requires offset_bound { x.offset.0 < 2 ^ 24 }
-    requires near { Near p.0 }
-    requires w_le_horizon { w.0 ≤ horizon }
-    ensures { result.0 ≡ count (pos w.0 -ℤ (pos x.phase.0 +ℤ (p.0 -ℤ pos 1) *ℤ pos x.period.0) +ℤ pos x.offset.0) }
-{
-    let period = x.period;
-    let phase = x.phase;
-    let since = w.0 as i64 - arrival(period, phase, p).0 + x.offset.0 as i64;
-    if since < 0 {
-        return Ticks(0);
-    }
-    Ticks(since as u64)
-}
-
-// The N-th job counted from the first.
-pub(crate) fn job(first: JobNumber, n: Jobs) -> JobNumber
-    requires near { Near first.0 }
-    requires n_bound { n.0 < 2 ^ 26 }
-    ensures { result.0 ≡ first.0 +ℤ pos n.0 }
-{
-    JobNumber(first.0 + n.0 as i64)
 }
 
 // The later one only if its response is greater.
@@ -132,10 +94,10 @@ impl Walk {
         requires used_le_budget { self.used ≤ budget }
         ensures { result ≡ walked budget (walk_jobs imposed (table_of work.now) s.u s.a x.mode x.candidate 1 n.0 (budget - self.used) (best_meant self.best)) }
     {
-        let p = job(x.first, n);
+        let p = x.job(n);
         let came = chains::job_chain(work, s, x, p, budget, self.used)?;
         let met = Best {
-            response: response(x, p, came.t),
+            response: x.response(p, came.t),
             source: Source {
                 mode: x.mode,
                 candidate: x.candidate,
@@ -186,9 +148,9 @@ impl Walk {
         requires used_le_budget { self.used ≤ budget }
         ensures { result ≡ walked budget (walk_turn imposed (table_of work.now) s.u s.a (record { mode = m; candidate = c }) (budget - self.used) (best_meant self.best)) }
     {
-        let x = chains::instant_of(work, s, m, c);
+        let x = Instant::of(work, s, m, c);
         let came = chains::busy_chain(work, s, x, budget, self.used)?;
-        let jobs = chains::jobs_to(x.first, chains::last_job(x.period, x.phase, came.t));
+        let jobs = x.jobs_to(x.last_job(came.t));
         let state = Walk {
             used: came.used,
             best: self.best,

@@ -1,5 +1,4 @@
 use mathlib.Core.Path.{◌≡◌}
-use Prim.Native.Nat.{◌-◌, ◌≤◌}
 use Rattle.row.specs.Row.{table_of}
 use Rattle.answers.specs.Work.{Lent}
 use Rattle.told.proofs.Told.{written_to}
@@ -7,7 +6,4 @@ use Rattle.answers.proofs.fill.Given as goal
 
 abbrev pub invariant-loop-k : goal.invariant-loop-k
 invariant-loop-k l =
-    (l.k ≤ l.count) × ((l.cells ≡ written_to (table_of l.initial.work) l.budget l.initial.cells l.k) × (Lent l.work × (table_of l.work ≡ table_of l.initial.work)))
-
-abbrev pub decreases-loop-k : goal.decreases-loop-k
-decreases-loop-k l = l.count - l.k
+    (l.cells ≡ written_to (table_of l.initial.work) l.budget l.initial.cells l.k) × (Lent l.work × (table_of l.work ≡ table_of l.initial.work))

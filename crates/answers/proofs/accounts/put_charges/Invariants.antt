@@ -1,6 +1,6 @@
 use mathlib.Core.Path.{◌≡◌}
 use mathlib.Core.List.{List}
-use Prim.Native.Nat.{ℕ, ◌-◌, ◌≤◌}
+use Prim.Native.Nat.{ℕ}
 use Rattle.row.specs.Row.{table_of}
 use Rattle.table.specs.Table.{Table}
 use Rattle.account.specs.Account.{charges_cell, charge_cells, laid, charge_of}
@@ -12,7 +12,4 @@ abbrev pub group : Table → Subject → (t i : ℕ) → List ℕ
 group tab s t i = charge_cells (charge_of tab s.u s.a t i)
 
 abbrev pub invariant-loop-i : goal.invariant-loop-i
-invariant-loop-i l = (l.i ≤ l.count) × (l.cells ≡ laid charges_cell l.i (group (table_of l.work) l.s l.t) l.initial.cells)
-
-abbrev pub decreases-loop-i : goal.decreases-loop-i
-decreases-loop-i l = l.count - l.i
+invariant-loop-i l = l.cells ≡ laid charges_cell l.i (group (table_of l.work) l.s l.t) l.initial.cells

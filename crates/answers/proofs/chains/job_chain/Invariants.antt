@@ -10,8 +10,8 @@ use Rattle.answers.proofs.chains.job_chain.Given as goal
 
 abbrev pub invariant-loop-made : goal.invariant-loop-made
 invariant-loop-made l =
-    Left (demand imposed (table_of l.work) l.s.u l.s.a l.x.mode l.x.candidate l.p.0) never? l.budget l.used (start (table_of l.work) l.s.u l.s.a l.x.mode l.x.candidate l.p.0) l.made l.t.0
-    × ((reaches : Reaches (table_of l.work) l.s.u l.s.a l.x.mode l.x.candidate l.p.0) → l.t.0 ≤ reaches.t)
+    Left (demand imposed (table_of l.work) l.s.u l.s.a l.x.mode l.x.candidate l.p.number) never? l.budget l.used (start (table_of l.work) l.s.u l.s.a l.x.mode l.x.candidate l.p.number) l.made l.t.0
+    × ((reaches : Reaches (table_of l.work) l.s.u l.s.a l.x.mode l.x.candidate l.p.number) → l.t.0 ≤ reaches.t)
 
 abbrev pub decreases-loop-made : goal.decreases-loop-made
 decreases-loop-made l = l.budget - l.made

@@ -1,26 +1,17 @@
 -- `Walk::job` meets its contract: the chain of the N-th job stays within the busy time, and its end with its response is
 -- what one step of the definition's walk gives.
-use Rattle.std.proofs.Common.{refl, ◌∙◌, ap, arith}
+use Rattle.std.proofs.Common.{refl, ◌∙◌, ap}
 use Rattle.std.proofs.lemmas.Result.{err_from_is_err_and}
 use Rattle.periods.specs.Charge.{imposed}
 use Rattle.analysis.specs.Choice.{count}
 use Rattle.analysis.specs.Walk.{better}
 use Rattle.answers.specs.Turn.{best_meant}
-use Rattle.answers.proofs.Instants.{instant-first, instant-period, instant-phase, instant-offset, instant-response, jobs-few, nth-number, nth-near, nth-reaches, reaches-came}
+use Rattle.answers.proofs.Instants.{instant-response, nth-number, nth-near, nth-reaches, reaches-came}
 use Rattle.answers.proofs.Walks.{met-answered, job-stops, job-comes}
 use Rattle.answers.proofs.walk.Walk.job.Goals as goal
 
-pub job-p-requires-clause-near : goal.job-p-requires-clause-near
-job-p-requires-clause-near c = instant-first c.requires.lent.table.kept c.requires.subject.chosen.is_task c.requires.instant
-
-pub job-p-requires-clause-n_bound : goal.job-p-requires-clause-n_bound
-job-p-requires-clause-n_bound c =
-    let lasts = c.requires.lasts in
-    omega (arith, c.requires.n_lt_jobs, lasts.jobs, jobs-few c.requires.lent.table.kept c.requires.subject.chosen.is_task c.args.x.candidate lasts.within)
-
-pub job_chain-requires-clause-near : goal.job_chain-requires-clause-near
-job_chain-requires-clause-near c =
-    nth-near c.requires.lent.table.kept c.requires.subject.chosen.is_task c.requires.instant c.requires.lasts c.requires.n_lt_jobs c.job-p.ensures
+pub job-p-requires : goal.job-p-requires
+job-p-requires c = nth-near c.requires.lent.table.kept c.requires.subject.chosen.is_task c.requires.instant c.requires.lasts c.requires.n_lt_jobs refl
 
 pub job_chain-requires-clause-reaches : goal.job_chain-requires-clause-reaches
 job_chain-requires-clause-reaches c =
@@ -32,32 +23,14 @@ returns-in_err-came c =
     let number = nth-number c.requires.lent.table.kept c.requires.subject.chosen.is_task c.requires.instant c.requires.lasts c.requires.n_lt_jobs c.job-p.ensures in
     rw (p.1, p.2) (job-stops imposed _ _ _ _ _ _ _ _ _ number c.job_chain.ensures c.in_err-came.was)
 
-pub response-requires-clause-period_bound : goal.response-requires-clause-period_bound
-response-requires-clause-period_bound c = instant-period c.requires.lent.table.kept c.requires.subject.chosen.is_task c.requires.instant
-
-pub response-requires-clause-phase_bound : goal.response-requires-clause-phase_bound
-response-requires-clause-phase_bound c =
-    omega (
-      arith,
-      instant-phase c.requires.lent.table.kept c.requires.subject.chosen.is_task c.requires.instant,
-      instant-period c.requires.lent.table.kept c.requires.subject.chosen.is_task c.requires.instant,
-    )
-
-pub response-requires-clause-offset_bound : goal.response-requires-clause-offset_bound
-response-requires-clause-offset_bound c = instant-offset c.requires.lent.table.kept c.requires.subject.chosen.is_task c.requires.instant
-
-pub response-requires-clause-near : goal.response-requires-clause-near
-response-requires-clause-near c =
-    nth-near c.requires.lent.table.kept c.requires.subject.chosen.is_task c.requires.instant c.requires.lasts c.requires.n_lt_jobs c.job-p.ensures
-
-pub response-requires-clause-w_le_horizon : goal.response-requires-clause-w_le_horizon
-response-requires-clause-w_le_horizon c =
+pub response-requires : goal.response-requires
+response-requires c =
     let reaches = nth-reaches c.requires.lent.table.kept c.requires.subject.chosen.is_task c.requires.instant c.requires.lasts c.requires.n_lt_jobs c.job-p.ensures in
     reaches-came c.requires.lent.table.kept c.requires.subject.chosen.is_task reaches _ _ c.job_chain.ensures c.in_ok-came.was
 
 pub returns : goal.returns
 returns c =
     let number = nth-number c.requires.lent.table.kept c.requires.subject.chosen.is_task c.requires.instant c.requires.lasts c.requires.n_lt_jobs c.job-p.ensures in
-    let answer = c.response.ensures ∙ ap count (instant-response c.requires.lent.table.kept c.requires.subject.chosen.is_task c.requires.instant c.job-p.result.0 c.in_ok-came.came.t.0) in
+    let answer = c.response.ensures ∙ ap count (instant-response c.requires.lent.table.kept c.requires.subject.chosen.is_task c.requires.instant c.job-p.result.number c.in_ok-came.came.t.0) in
     job-comes imposed _ _ _ _ _ _ _ _ _ number c.job_chain.ensures c.in_ok-came.was
     (c.better.ensures ∙ ap (better (best_meant c.args.self.best)) (met-answered _ _ _ _ _ _ (rw number at answer) refl))
