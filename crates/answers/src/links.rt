@@ -93,17 +93,6 @@ impl Weighed<'_> {
     }
 }
 
-pub(crate) fn weight(work: &[u32; Work::CELLS], s: Subject, i: usize, m: usize, j: usize) -> u32
-    requires lent { Lent work.now }
-    requires weighs { Weighs work.now s }
-    requires task { IsTask (table_of work.now) i j }
-    requires m_bound { m < modes (table_of work.now) i }
-    ensures { result ≡ weight (table_of work.now) s.u s.a i m j }
-{
-    let cells = Weighed { work, s };
-    cells.weight(i, m, j)
-}
-
 // Links the settings of task number k, where `after` is the next setting from the next task on; answers the next one from k on.
 fn link_task(work: &mut [u32; Work::CELLS], s: Subject, k: usize, after: u32) -> u32
     requires lent { Lent work.old }

@@ -5,7 +5,7 @@ use Rattle.analysis.specs.Walk.{beyond?}
 use Rattle.analysis.proofs.Charges.{busy-some}
 use Rattle.answers.proofs.Chain.{left-all, left-came, left_over, left-on, left-none}
 use Rattle.answers.proofs.Cycles.{left-goes}
-use Rattle.answers.proofs.chains.busy_chain.Goals as goal
+use Rattle.answers.proofs.lent.Linked.busy_chain.Goals as goal
 
 pub loop-made-init : goal.loop-made-init
 loop-made-init c = (left-all _ beyond? 1 c.requires.used_le_budget, omega arith)
@@ -20,7 +20,7 @@ returns-then-horizon-value c =
 
 pub go_on-next-requires-clause-met_2 : goal.go_on-next-requires-clause-met_2
 go_on-next-requires-clause-met_2 c =
-    (rw c.busy-value.ensures (busy-some c.requires.lent.table.kept c.requires.subject.chosen.is_task c.requires.instant.setting c.loop-made.invariant.1.0.0), omega arith)
+    (rw c.busy-value.ensures (busy-some c.requires.instant.kept c.requires.instant.is_task c.requires.instant.setting c.loop-made.invariant.1.0.0), omega arith)
 
 pub loop-made-preserved : goal.loop-made-preserved
 loop-made-preserved c =

@@ -2,7 +2,7 @@
 use Rattle.std.proofs.Common.{arith}
 use Rattle.cycle.specs.Cycle.{none}
 use Rattle.answers.proofs.Cycles.{way_on}
-use Rattle.answers.proofs.ahead.cycle_from.Goals as goal
+use Rattle.answers.proofs.lent.Linked.cycle_from.Goals as goal
 
 pub loop-z-init : goal.loop-z-init
 loop-z-init c = (none, omega arith)

@@ -4,12 +4,12 @@ use Rattle.std.proofs.Common.{sym, ◌∙◌, arith}
 use Rattle.analysis.specs.Walk.{never?}
 use Rattle.answers.proofs.Chain.{left-all, left-came, left-on, left-none}
 use Rattle.answers.proofs.Instants.{instant-start, reaches-start, reaches-on}
-use Rattle.answers.proofs.chains.job_chain.Goals as goal
+use Rattle.answers.proofs.lent.Linked.job_chain.Goals as goal
 
 pub loop-made-init : goal.loop-made-init
 loop-made-init c =
-    let kept = c.requires.lent.table.kept in
-    let is_task = c.requires.subject.chosen.is_task in
+    let kept = c.requires.instant.kept in
+    let is_task = c.requires.instant.is_task in
     rw (c.start-t.ensures ∙ instant-start kept is_task c.requires.instant c.args.p.number)
     (left-all _ never? _ c.requires.used_le_budget, λ r. reaches-start kept is_task r)
 
@@ -26,7 +26,7 @@ loop-made-preserved c =
     let inv = c.loop-made.invariant in
     let value = c.demand-value.ensures in (
       left-on _ never? inv.0 value c.loop-made-test.true c.if-value-t.false (λ o. o),
-      λ r. rw value (reaches-on c.requires.lent.table.kept c.requires.subject.chosen.is_task r c.loop-made.t.0 (inv.1 r)),
+      λ r. rw value (reaches-on c.requires.instant.kept c.requires.instant.is_task r c.loop-made.t.0 (inv.1 r)),
     )
 
 pub returns : goal.returns
