@@ -1,6 +1,5 @@
 -- Each number of the instant is what its callee reads, and within its bound.
 use Rattle.std.proofs.Common.{◌≡◌, refl, sym, subst, ap, ◌∙◌, ℕ, pos, ◌-ℤ◌, arith}
-use Rattle.row.specs.Row.{table_of}
 use Rattle.analysis.specs.Bound.{Setting, first_job}
 use Rattle.charge.proofs.Ranges.{held-of-lt}
 use Rattle.table.proofs.Ranges.{offset-lt, period-lt, time-lt}

@@ -1,5 +1,4 @@
 use Prim.Native.Nat.{◌-◌}
-use Rattle.row.specs.Row.{table_of}
 use Rattle.analysis.specs.Bound.{busy}
 use Rattle.analysis.specs.Walk.{beyond?}
 use Rattle.answers.specs.Ahead.{Met}

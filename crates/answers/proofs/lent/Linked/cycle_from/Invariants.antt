@@ -1,5 +1,4 @@
 use Prim.Native.Nat.{◌+◌, ◌-◌, ◌≤◌}
-use Rattle.row.specs.Row.{table_of}
 use Rattle.analysis.specs.Bound.{busy}
 use Rattle.cycle.specs.Cycle.{Way}
 use Rattle.answers.proofs.lent.Linked.cycle_from.Given as goal

@@ -1,5 +1,4 @@
 use Prim.Native.Nat.{◌-◌, ◌≤◌}
-use Rattle.row.specs.Row.{table_of}
 use Rattle.periods.specs.Charge.{imposed}
 use Rattle.analysis.specs.Bound.{demand}
 use Rattle.analysis.specs.Needed.{start}

@@ -1,6 +1,5 @@
 -- `Walk::candidate` meets its contract: a candidate has its one turn, and another task has none.
 use Rattle.std.proofs.Common.{refl, sym, ◌∙◌}
-use Rattle.row.specs.Row.{table_of}
 use Rattle.periods.specs.Charge.{imposed}
 use Rattle.analysis.specs.Rival.{candidate?}
 use Rattle.answers.proofs.Walks.{going-ends, candidate-yes, candidate-no, tested-true, tested-false}

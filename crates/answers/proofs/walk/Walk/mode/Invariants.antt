@@ -1,5 +1,4 @@
 use Prim.Native.Nat.{◌-◌}
-use Rattle.row.specs.Row.{table_of}
 use Rattle.periods.specs.Charge.{imposed}
 use Rattle.analysis.specs.Walk.{walk_turns}
 use Rattle.answers.specs.Turn.{best_meant, turns_from, mode_turns}
