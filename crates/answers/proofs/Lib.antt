@@ -14,3 +14,4 @@ pub mod Most
 pub mod Pushing
 pub mod Accounted
 pub mod Spans
+pub mod Rooms

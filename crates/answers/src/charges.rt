@@ -30,6 +30,7 @@ pub(crate) struct Subject {
 }
 
 // Where task j of transaction i stands among the phases and the held-back jobs, when candidate c sets the instant.
+#[tactic(auto, using(crate::proofs::Rooms::rooms))]
 fn place(work: &[u32; Work::CELLS], i: usize, c: usize, j: usize) -> usize
     requires row_of_table { RowOfTable work.now }
     requires task { IsTask (table_of work.now) i c }
@@ -200,6 +201,7 @@ impl Setting<'_> {
 impl Linked<'_> {
     // The greatest charge of another transaction, over its modes and candidates: over the settings that are charged. The
     // settings are a list in fixed cells, so the number of the next is read there, and no `for` counts it.
+    #[tactic(auto, using(crate::proofs::Rooms::rooms))]
     fn greatest(&self, whole: bool, i: usize, t: Ticks) -> Ticks
         requires i_bound { i < transactions self.now.tab }
         requires t_le_horizon { t.0 ≤ horizon }
