@@ -14,4 +14,5 @@ pub mod Most
 pub mod Pushing
 pub mod Accounted
 pub mod Spans
+pub mod Rooms
 pub mod Choosing

@@ -30,6 +30,7 @@ pub(crate) struct Subject {
 }
 
 // Where task j of transaction i stands among the phases and the held-back jobs, when candidate c sets the instant.
+#[tactic(auto, using(crate::proofs::Rooms::rooms))]
 fn place(work: &[u32; Work::CELLS], i: usize, c: usize, j: usize) -> usize
     requires row_of_table { RowOfTable work.now }
     requires task { IsTask (table_of work.now) i c }
@@ -200,6 +201,7 @@ impl Setting<'_> {
 impl Linked<'_> {
     // The greatest charge of another transaction, over its modes and candidates: over the settings that are charged. The
     // settings are a list in fixed cells, so the number of the next is read there, and no `for` counts it.
+    #[tactic(auto, using(crate::proofs::Rooms::rooms))]
     fn greatest(&self, whole: bool, i: usize, t: Ticks) -> Ticks
         requires i_bound { i < transactions self.now.tab }
         requires t_le_horizon { t.0 ≤ horizon }
@@ -249,46 +251,4 @@ impl Linked<'_> {
         };
         Ticks(own.charge(whole).0 + sum)
     }
-}
-
-pub(crate) fn charge(
-    work: &[u32; Work::CELLS],
-    s: Subject,
-    whole: bool,
-    i: usize,
-    m: usize,
-    c: usize,
-    x: Split,
-) -> Ticks
-    requires { IsSetting work.now s i m c x }
-    ensures { result.0 ≡ charge (later_of whole) (table_of work.now) s.u s.a i m c (moment x) }
-{
-    let setting = Setting {
-        work,
-        s,
-        i,
-        m,
-        c,
-        x,
-    };
-    setting.charge(whole)
-}
-
-pub(crate) fn rivals(
-    work: &[u32; Work::CELLS],
-    s: Subject,
-    whole: bool,
-    m: usize,
-    c: usize,
-    t: Ticks,
-) -> Ticks
-    requires lent { Lent work.now }
-    requires subject { IsSubject work.now s }
-    requires task { IsTask (table_of work.now) s.u c }
-    requires m_bound { m < modes (table_of work.now) s.u }
-    requires t_le_horizon { t.0 ≤ horizon }
-    ensures { result.0 ≡ rivals (later_of whole) (table_of work.now) s.u s.a m c t.0 }
-{
-    let cells = Linked { work, s };
-    cells.rivals(whole, m, c, t)
 }

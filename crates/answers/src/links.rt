@@ -20,6 +20,7 @@ use row::{Table, Transaction};
 
 impl Weighed<'_> {
     // The weight of task j of transaction i in mode m: 0 where it is no rival.
+    #[tactic(auto, using(crate::proofs::Rooms::rooms))]
     pub(crate) fn weight(&self, i: usize, m: usize, j: usize) -> u32
         requires task { IsTask self.now.tab i j }
         requires m_bound { m < modes self.now.tab i }
@@ -30,6 +31,7 @@ impl Weighed<'_> {
     }
 
     // The weights of transaction i in mode m together.
+    #[tactic(auto, using(crate::proofs::Rooms::rooms))]
     pub(crate) fn mode_weight(&self, i: usize, m: usize) -> u64
         requires i_bound { i < transactions self.now.tab }
         requires m_bound { m < modes self.now.tab i }
@@ -93,18 +95,8 @@ impl Weighed<'_> {
     }
 }
 
-pub(crate) fn weight(work: &[u32; Work::CELLS], s: Subject, i: usize, m: usize, j: usize) -> u32
-    requires lent { Lent work.now }
-    requires weighs { Weighs work.now s }
-    requires task { IsTask (table_of work.now) i j }
-    requires m_bound { m < modes (table_of work.now) i }
-    ensures { result ≡ weight (table_of work.now) s.u s.a i m j }
-{
-    let cells = Weighed { work, s };
-    cells.weight(i, m, j)
-}
-
 // Links the settings of task number k, where `after` is the next setting from the next task on; answers the next one from k on.
+#[tactic(auto, using(crate::proofs::Rooms::rooms))]
 fn link_task(work: &mut [u32; Work::CELLS], s: Subject, k: usize, after: u32) -> u32
     requires lent { Lent work.old }
     requires weighs { Weighs work.old s }

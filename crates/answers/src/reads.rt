@@ -1,4 +1,6 @@
 // The fields of the table that work cells begin with, by the readers of its row: transaction i, and task j of transaction i.
+#![tactic(auto, using(crate::proofs::Rooms::rooms, crate::proofs::Rooms::fields), unfolding(table::specs::Number::number))]
+
 ghost use Rattle.std.specs.Prelude.{◌≡◌, ◌<◌};
 ghost use Rattle.row.specs.Row.{table_of, RowOfTable};
 ghost use Rattle.table.specs.Table.{IsTask, transactions, period, modes, tasks, offset, blocking, priority, time};
