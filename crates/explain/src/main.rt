@@ -3,453 +3,352 @@
 
 ghost use Rattle.std.specs.Prelude.{◌≡◌, ◌+◌, ◌^◌, ◌<◌};
 
-use output::{Out, Verdict, Words};
+use output::{Begun, Grouped, Out, Verdict, Words};
 use parts::{Made, Part, Parts};
 use row::Table;
+use std::io;
 use sumpcandle::{Filled, TaskCells};
+use told::{Code, UnknownCode};
 
 // More than any bound and any deadline: how far a task without a bound counts as above its deadline.
 const FAR: u64 = 4_294_967_296;
 
-// What is told of a task, with bound 0 where there is none, who gave the bound, and its deadline.
+// What is told of a task, and its deadline.
 #[derive(Clone, Copy)]
 struct Line {
-    code: u32,
-    bound: u32,
-    mode: u32,
-    candidate: u32,
-    job: u32,
+    k: usize,
+    told: TaskCells,
     deadline: u32,
 }
 
-// Of the tasks so far: how many are in time and how many are not shown to be, which of these is worst and how far it is above,
-// and which of the others has the least to spare.
+impl Line {
+    fn code(&self) -> Result<Code, UnknownCode> {
+        Code::try_from(self.told.code)
+    }
+
+    fn is_kept(&self) -> bool {
+        self.told.code == TaskCells::KEPT
+    }
+
+    fn bound(&self) -> Option<u64> {
+        if self.told.bound == TaskCells::NO_BOUND {
+            None
+        } else {
+            Some(u64::from(self.told.bound))
+        }
+    }
+
+    // How far the bound is below the deadline.
+    fn spare(&self) -> u64 {
+        u64::from(self.deadline.saturating_sub(self.told.bound))
+    }
+
+    // How far it is above it.
+    fn above(&self) -> u64 {
+        match self.code() {
+            Ok(Code::Late) => u64::from(self.told.bound.saturating_sub(self.deadline)),
+            _ => FAR,
+        }
+    }
+}
+
+// Of the tasks so far: how many are in time and how many are not shown to be, which of these is worst, and which of the others has the
+// least to spare. The first of equals stays.
 #[derive(Clone, Copy)]
 struct Summary {
     kept: u64,
     open: u64,
-    worst: usize,
-    above: u64,
-    nearest: usize,
-    spare: u64,
+    worst: Option<Line>,
+    nearest: Option<Line>,
 }
 
-fn ahead(x: u64, y: u64) -> u64 {
-    if y < x { x - y } else { 0 }
+impl Summary {
+    fn add(self, line: Line) -> Summary
+        requires { self.kept + self.open + 1 < 2 ^ 64 }
+        ensures { result.kept + result.open ≡ self.kept + self.open + 1 }
+    {
+        if line.is_kept() {
+            Summary {
+                kept: self.kept + 1,
+                nearest: match self.nearest {
+                    Some(nearest) if nearest.spare() <= line.spare() => self.nearest,
+                    _ => Some(line),
+                },
+                ..self
+            }
+        } else {
+            Summary {
+                open: self.open + 1,
+                worst: match self.worst {
+                    Some(worst) if line.above() <= worst.above() => self.worst,
+                    _ => Some(line),
+                },
+                ..self
+            }
+        }
+    }
 }
 
-fn beyond(x: u32, y: u32) -> u64 {
-    ahead(x as u64, y as u64)
+// A table, and what is told of its tasks.
+#[derive(Clone, Copy)]
+struct Told<'a> {
+    image: &'a [u8],
+    table: &'a [u32],
+    cells: &'a [u32],
+    tasks: usize,
 }
 
-fn line_of(cells: &[u32; sumpcandle::CELLS], table: &[u32], k: usize) -> Line {
-    let deadline = Table::deadline(table, k);
-    if Table::TASKS <= k {
-        return Line {
-            code: TaskCells::KEPT,
-            bound: TaskCells::NO_BOUND,
-            mode: TaskCells::NO_BOUND,
-            candidate: TaskCells::NO_BOUND,
-            job: TaskCells::NO_BOUND,
-            deadline,
+impl<'a> Told<'a> {
+    fn line(&self, k: usize) -> Option<Line> {
+        Some(Line {
+            k,
+            told: TaskCells::of(self.cells, k)?,
+            deadline: Table::deadline(self.table, k),
+        })
+    }
+
+    fn summary(&self) -> Summary {
+        let mut all = Summary {
+            kept: 0,
+            open: 0,
+            worst: None,
+            nearest: None,
         };
+        for k in 0..self.tasks {
+            if let Some(line) = self.line(k) {
+                all = all.add(line);
+            }
+        }
+        all
     }
-    Line {
-        code: cells[TaskCells::COUNT * k + TaskCells::CODE_CELL],
-        bound: cells[TaskCells::COUNT * k + TaskCells::BOUND_CELL],
-        mode: cells[TaskCells::COUNT * k + TaskCells::MODE_CELL],
-        candidate: cells[TaskCells::COUNT * k + TaskCells::CANDIDATE_CELL],
-        job: cells[TaskCells::COUNT * k + TaskCells::JOB_CELL],
-        deadline,
-    }
-}
-
-// The first of equals stays.
-fn with(s: Summary, k: usize, line: Line) -> Summary
-    requires { s.kept + s.open + 1 < 2 ^ 64 }
-    ensures { result.kept + result.open ≡ s.kept + s.open + 1 }
-{
-    if line.code == TaskCells::KEPT {
-        let spare = beyond(line.deadline, line.bound);
-        let nearer = spare < s.spare;
-        return Summary {
-            kept: s.kept + 1,
-            open: s.open,
-            worst: s.worst,
-            above: s.above,
-            nearest: if nearer { k } else { s.nearest },
-            spare: if nearer { spare } else { s.spare },
-        };
-    }
-    let above = if line.code == TaskCells::LATE {
-        beyond(line.bound, line.deadline)
-    } else {
-        FAR
-    };
-    let worse = s.above < above;
-    Summary {
-        kept: s.kept,
-        open: s.open + 1,
-        worst: if worse { k } else { s.worst },
-        above: if worse { above } else { s.above },
-        nearest: s.nearest,
-        spare: s.spare,
-    }
-}
-
-fn over_all(cells: &[u32; sumpcandle::CELLS], table: &[u32], tasks: usize) -> Summary {
-    let mut s = Summary {
-        kept: 0,
-        open: 0,
-        worst: 0,
-        above: 0,
-        nearest: 0,
-        spare: FAR,
-    };
-    for k in 0..tasks {
-        s = with(s, k, line_of(cells, table, k));
-    }
-    s
 }
 
 // Each column but the first has a blank before it.
-fn columns(out: &mut Out, whole: bool, table: &[u32], k: usize, line: Line) -> bool {
-    let u = Table::owner(table, k);
-    let whole = output::grouped(out, whole, k as u64, 4);
-    let whole = output::grouped(out, whole, u as u64, 6);
-    let whole = output::grouped(out, whole, Table::period(table, u as usize) as u64, 11);
-    let whole = output::grouped(out, whole, Table::priority(table, k) as u64, 9);
-    let whole = if line.bound == TaskCells::NO_BOUND {
-        output::say(out, whole, b"          -")
-    } else {
-        output::grouped(out, whole, line.bound as u64, 11)
-    };
-    output::grouped(out, whole, line.deadline as u64, 11)
+fn columns(out: &mut Out, table: &[u32], line: Line) -> io::Result<()> {
+    let u = Table::owner(table, line.k);
+    out.grouped(line.k as u64, 4)?;
+    out.grouped(u64::from(u), 6)?;
+    out.grouped(u64::from(Table::period(table, u as usize)), 11)?;
+    out.grouped(u64::from(Table::priority(table, line.k)), 9)?;
+    match line.bound() {
+        Some(bound) => out.grouped(bound, 11)?,
+        None => write!(out, "{:>11}", "-")?,
+    }
+    out.grouped(u64::from(line.deadline), 11)
 }
 
-fn meaning(out: &mut Out, whole: bool, line: Line) -> bool {
-    let code = line.code;
-    if code == TaskCells::KEPT {
-        return output::count(
+fn meaning(out: &mut Out, line: Line) -> io::Result<()> {
+    match line.code() {
+        Ok(Code::Kept) => write!(out, "  in time, {} to spare", Grouped(line.spare())),
+        Ok(Code::Late) => write!(
             out,
-            whole,
-            b"  in time, ",
-            beyond(line.deadline, line.bound),
-            b" to spare",
-        );
-    }
-    if code == TaskCells::LATE {
-        return output::count(
+            "  not shown to be in time, {} above",
+            Grouped(line.above())
+        ),
+        Ok(Code::Overload) => write!(
             out,
-            whole,
-            b"  not shown to be in time, ",
-            beyond(line.bound, line.deadline),
-            b" above",
-        );
-    }
-    if code == TaskCells::OVERLOAD {
-        return output::say(
+            "  no bound: it and the tasks that can delay it may want more than the major frame holds",
+        ),
+        Ok(Code::Beyond) => write!(
             out,
-            whole,
-            b"  no bound: it and the tasks that can delay it may want more than the major frame holds",
-        );
-    }
-    if code == TaskCells::BEYOND {
-        return output::count(
+            "  no bound: no busy time up to the horizon of {} ticks was found to end",
+            Grouped(u64::from(Table::HORIZON)),
+        ),
+        Ok(Code::Spent) => write!(
             out,
-            whole,
-            b"  no bound: no busy time up to the horizon of ",
-            Table::HORIZON as u64,
-            b" ticks was found to end",
-        );
-    }
-    if code == TaskCells::SPENT {
-        return output::count(
+            "  not decided: {} evaluations were not enough",
+            Grouped(u64::from(input::BUDGET)),
+        ),
+        Err(UnknownCode(code)) => write!(
             out,
-            whole,
-            b"  not decided: ",
-            input::BUDGET as u64,
-            b" evaluations were not enough",
-        );
+            "  a code that is not known here: {}",
+            Grouped(u64::from(code)),
+        ),
     }
-    output::count(
-        out,
-        whole,
-        b"  a code that is not known here: ",
-        code as u64,
-        b"",
-    )
 }
 
-// The task that sets the critical instant, and its mode, behind a text.
-fn set_by(out: &mut Out, whole: bool, text: &[u8], task: u32, mode: u32, end: &[u8]) -> bool {
-    let whole = output::count(out, whole, text, task as u64, b" sets it in mode ");
-    output::count(out, whole, b"", mode as u64, end)
-}
-
-// Ticks in the column of the bounds.
-fn ticks(out: &mut Out, whole: bool, n: u64) -> bool {
-    let whole = output::say(out, whole, b"               ");
-    output::grouped(out, whole, n, 26)
-}
-
-// A part of the completion, left out where it is 0.
-fn part(out: &mut Out, whole: bool, n: u32, text: &[u8]) -> bool {
-    if n == 0 {
-        return whole;
-    }
-    let whole = ticks(out, whole, n as u64);
-    output::say(out, whole, text)
+// Ticks in the column of the bounds, and what they are.
+fn part(out: &mut Out, ticks: u64, text: &str) -> io::Result<()> {
+    out.grouped(ticks, 41)?;
+    write!(out, "  {text}\n")
 }
 
 // What another transaction charges, if it has rivals.
-fn other(out: &mut Out, whole: bool, image: &[u8], k: u32, i: u32, completion: u32) -> bool {
+fn other(out: &mut Out, image: &[u8], k: u32, i: u32, completion: u32) -> io::Result<()> {
     let Part::Charged(charge) = sumpcandle::charge(image, k, i, false, completion) else {
-        return whole;
+        return Ok(());
     };
-    let whole = ticks(out, whole, charge.ticks);
-    let whole = output::count(out, whole, b"  transaction ", i as u64, b"");
-    set_by(
+    out.grouped(charge.ticks, 41)?;
+    write!(
         out,
-        whole,
-        b", most when task ",
-        charge.candidate,
-        charge.mode,
-        b"\n",
+        "  transaction {i}, most when task {} sets it in mode {}\n",
+        charge.candidate, charge.mode,
     )
 }
 
-fn others(out: &mut Out, whole: bool, image: &[u8], k: u32, count: u32, completion: u32) -> bool {
-    let mut whole = whole;
-    for i in 0..count {
-        whole = other(out, whole, image, k, i, completion);
-    }
-    whole
-}
-
-// How far from the instant the job arrived, on which side, and the bound that follows: completion − arrival + offset.
-fn arrived(
-    out: &mut Out,
-    whole: bool,
-    by: u64,
-    side: &[u8],
-    sign: &[u8],
-    of: Parts,
-    bound: u32,
-) -> bool {
-    let whole = output::count(out, whole, b"      arrived ", by, side);
-    let whole = output::count(
+// How far from the instant the job arrived, on which side, and the bound that follows: completion − arrival + offset. So the arrival is
+// completion + offset − bound.
+fn response(out: &mut Out, of: Parts, bound: u32) -> io::Result<()> {
+    let bound = u64::from(bound);
+    let end = u64::from(of.completion) + u64::from(of.offset);
+    let (side, sign) = if end < bound {
+        ("before", "+")
+    } else {
+        ("after", "-")
+    };
+    let by = Grouped(end.abs_diff(bound));
+    let offset = Grouped(u64::from(of.offset));
+    write!(
         out,
-        whole,
-        b" that instant, offset ",
-        of.offset as u64,
-        b": ",
-    );
-    let whole = output::count(out, whole, b"", of.completion as u64, sign);
-    let whole = output::count(out, whole, b"", by, b" + ");
-    let whole = output::count(out, whole, b"", of.offset as u64, b" = ");
-    output::count(out, whole, b"", bound as u64, b"\n")
-}
-
-// The arrival is completion + offset − bound.
-fn response(out: &mut Out, whole: bool, of: Parts, bound: u32) -> bool {
-    let end = of.completion as u64 + of.offset as u64;
-    let before = ahead(bound as u64, end);
-    if 0 < before {
-        return arrived(out, whole, before, b" before", b" + ", of, bound);
-    }
-    let after = ahead(end, bound as u64);
-    arrived(out, whole, after, b" after", b" - ", of, bound)
+        "      arrived {by} {side} that instant, offset {offset}: "
+    )?;
+    let completion = Grouped(u64::from(of.completion));
+    write!(
+        out,
+        "{completion} {sign} {by} + {offset} = {}\n",
+        Grouped(bound)
+    )
 }
 
 // What the bound of a task is made of, under its line: the parts add up to the completion.
-fn made_of(
-    out: &mut Out,
-    whole: bool,
-    image: &[u8],
-    table: &[u32],
-    k: u32,
-    line: Line,
-    of: Parts,
-) -> bool {
-    let t = of.completion;
-    let whole = output::count(
-        out,
-        whole,
-        b"      completes ",
-        t as u64,
-        b" after the critical instant",
-    );
-    let whole = set_by(out, whole, b"; task ", line.candidate, line.mode, b":\n");
-    let whole = part(out, whole, of.blocking, b"  blocking\n");
-    let whole = ticks(out, whole, of.jobs as u64);
-    let whole = output::count(out, whole, b"  its own jobs (", line.job as u64 + 1, b")\n");
-    let whole = part(out, whole, of.rivals, b"  other tasks of its transaction\n");
-    let whole = others(out, whole, image, k, Table::transactions(table), t);
-    response(out, whole, of, line.bound)
-}
-
-fn made(out: &mut Out, whole: bool, image: &[u8], table: &[u32], k: usize, line: Line) -> bool {
-    if Table::TASKS <= k {
-        return whole;
-    }
-    let k = k as u32;
-    let Made::Of(of) = sumpcandle::parts(image, k, input::BUDGET) else {
-        return whole;
+fn made(out: &mut Out, told: &Told, line: Line) -> io::Result<()> {
+    let Ok(k) = u32::try_from(line.k) else {
+        return Ok(());
     };
-    made_of(out, whole, image, table, k, line, of)
+    let Made::Of(of) = sumpcandle::parts(told.image, k, input::BUDGET) else {
+        return Ok(());
+    };
+    write!(
+        out,
+        "      completes {} after the critical instant; task {} sets it in mode {}:\n",
+        Grouped(u64::from(of.completion)),
+        line.told.candidate,
+        line.told.mode,
+    )?;
+    if of.blocking != 0 {
+        part(out, u64::from(of.blocking), "blocking")?;
+    }
+    out.grouped(u64::from(of.jobs), 41)?;
+    write!(
+        out,
+        "  its own jobs ({})\n",
+        Grouped(u64::from(line.told.job) + 1)
+    )?;
+    if of.rivals != 0 {
+        part(out, u64::from(of.rivals), "other tasks of its transaction")?;
+    }
+    for i in 0..Table::transactions(told.table) {
+        other(out, told.image, k, i, of.completion)?;
+    }
+    response(out, of, line.told.bound)
 }
 
-fn task(
-    out: &mut Out,
-    whole: bool,
-    words: Words,
-    image: &[u8],
-    table: &[u32],
-    k: usize,
-    line: Line,
-) -> bool {
-    let kept = line.code == TaskCells::KEPT;
-    let hidden = words.open & kept;
-    if hidden {
-        return whole;
+fn task(out: &mut Out, words: Words, told: &Told, line: Line) -> io::Result<()> {
+    let kept = line.is_kept();
+    if words.open && kept {
+        return Ok(());
     }
-    let red = words.colour & !kept;
-    let whole = output::begin_line(out, whole, red);
-    let whole = columns(out, whole, table, k, line);
-    let whole = meaning(out, whole, line);
-    let whole = output::end_line(out, whole, red);
-    // a bound is at least 1, and without one there is nothing to ask: that would only walk again
-    let asked = (words.all | !kept) & (0 < line.bound);
-    if asked {
-        return made(out, whole, image, table, k, line);
+    let red = words.colour && !kept;
+    out.begin_line(red)?;
+    columns(out, told.table, line)?;
+    meaning(out, line)?;
+    out.end_line(red)?;
+    // without a bound there is nothing to ask: that would only walk again
+    if (words.all || !kept) && line.bound().is_some() {
+        made(out, told, line)?;
     }
-    whole
+    Ok(())
 }
 
-fn every_task(
-    out: &mut Out,
-    words: Words,
-    image: &[u8],
-    cells: &[u32; sumpcandle::CELLS],
-    table: &[u32],
-    tasks: usize,
-    open: u64,
-) -> bool {
-    let mut whole = true;
-    let shown = !words.open | (0 < open);
-    if shown {
-        whole = output::say(
-            out,
-            whole,
-            b"task trans     period priority      bound   deadline\n",
-        );
+fn every_task(out: &mut Out, words: Words, told: &Told, open: u64) -> io::Result<()> {
+    if !words.open || 0 < open {
+        out.say(b"task trans     period priority      bound   deadline\n")?;
     }
-    for k in 0..tasks {
-        whole = task(out, whole, words, image, table, k, line_of(cells, table, k));
+    for k in 0..told.tasks {
+        if let Some(line) = told.line(k) {
+            task(out, words, told, line)?;
+        }
     }
-    whole
+    Ok(())
 }
 
 // How many are in time, how many not, and the worst of these.
-fn not_all(out: &mut Out, whole: bool, s: Summary, worst: Line) -> bool {
-    let whole = output::count(out, whole, b"", s.kept, b" in time, ");
-    let whole = output::count(out, whole, b"", s.open, b" not shown to be (");
-    let whole = if 1 < s.open {
-        output::say(out, whole, b"worst ")
-    } else {
-        whole
-    };
-    let whole = output::count(out, whole, b"task ", s.worst as u64, b", ");
-    if worst.code == TaskCells::LATE {
-        return output::count(out, whole, b"", s.above, b" above)");
+fn not_all(out: &mut Out, all: Summary, worst: Line) -> io::Result<()> {
+    write!(
+        out,
+        "{} in time, {} not shown to be (",
+        Grouped(all.kept),
+        Grouped(all.open)
+    )?;
+    if 1 < all.open {
+        out.say(b"worst ")?;
     }
-    if worst.code == TaskCells::SPENT {
-        return output::say(out, whole, b"not decided)");
+    write!(out, "task {}, ", worst.k)?;
+    match worst.code() {
+        Ok(Code::Late) => write!(out, "{} above)", Grouped(worst.above())),
+        Ok(Code::Spent) => out.say(b"not decided)"),
+        _ => out.say(b"no bound)"),
     }
-    output::say(out, whole, b"no bound)")
 }
 
-fn last_line(
-    out: &mut Out,
-    whole: bool,
-    words: Words,
-    tasks: usize,
-    s: Summary,
-    worst: Line,
-) -> bool {
-    let red = words.colour & (0 < s.open);
-    let whole = output::begin_line(out, whole, red);
-    let whole = if tasks == 1 {
-        output::say(out, whole, b"1 task: ")
-    } else {
-        output::count(out, whole, b"", tasks as u64, b" tasks: ")
-    };
-    let whole = if s.open == 0 {
-        output::say(out, whole, b"all in time")
-    } else {
-        not_all(out, whole, s, worst)
-    };
-    if s.kept == 0 {
-        return output::end_line(out, whole, red);
+fn last_line(out: &mut Out, words: Words, tasks: usize, all: Summary) -> io::Result<()> {
+    let red = words.colour && 0 < all.open;
+    out.begin_line(red)?;
+    match tasks {
+        1 => out.say(b"1 task: ")?,
+        _ => write!(out, "{tasks} tasks: ")?,
     }
-    let whole = output::count(out, whole, b"; least to spare ", s.spare, b" (task ");
-    let whole = output::count(out, whole, b"", s.nearest as u64, b")");
-    output::end_line(out, whole, red)
+    match all.worst {
+        None => out.say(b"all in time")?,
+        Some(worst) => not_all(out, all, worst)?,
+    }
+    if let Some(nearest) = all.nearest {
+        write!(
+            out,
+            "; least to spare {} (task {})",
+            Grouped(nearest.spare()),
+            nearest.k
+        )?;
+    }
+    out.end_line(red)
 }
 
 // All lines, and whether every task is in time.
-fn accepted(
-    rt: &HostRuntime,
-    out: &mut Out,
-    words: Words,
-    image: &[u8],
-    cells: &[u32; sumpcandle::CELLS],
-    table: &[u32],
-    tasks: usize,
-) {
-    let s = over_all(cells, table, tasks);
-    let whole = every_task(out, words, image, cells, table, tasks, s.open);
-    let worst = line_of(cells, table, s.worst);
-    let whole = last_line(out, whole, words, tasks, s, worst);
-    let verdict = if TaskCells::all_kept(cells, tasks) {
-        Verdict::Kept
-    } else {
-        Verdict::NotShown
-    };
-    output::end(rt, out, b"explain", words, image, whole, verdict);
-}
-
-fn explain(rt: &HostRuntime, words: Words, image: &[u8]) {
+fn explain(out: &mut Out, words: Words, image: &[u8]) -> io::Result<Verdict> {
     let table = image::read(image).table;
-    let mut out = Out::new(rt.stdout());
     let mut cells = [0u32; sumpcandle::CELLS];
     match sumpcandle::cells(image, input::BUDGET, &mut cells) {
         Filled::Refused(refusal, at) => {
-            let whole = output::refused(&mut out, true, image, refusal, at);
-            output::end(rt, &out, b"explain", words, image, whole, Verdict::Refused);
+            output::refused(out, image, refusal, at)?;
+            Ok(Verdict::Refused)
         }
-        Filled::Done(tasks) => accepted(rt, &mut out, words, image, &cells, &table.cells, tasks),
+        Filled::Done(tasks) => {
+            let told = Told {
+                image,
+                table: &table.cells,
+                cells: &cells,
+                tasks,
+            };
+            let all = told.summary();
+            every_task(out, words, &told, all.open)?;
+            last_line(out, words, tasks, all)?;
+            Ok(Verdict::accepted(TaskCells::all_kept(&cells, tasks)))
+        }
     }
 }
 
 fn main(rt: HostRuntime) {
     let mut image = [0u8; input::BUFFER];
-    let begun = output::begin(
-        &rt,
-        b"explain",
-        Words {
-            verdict: true,
-            open: true,
-            all: true,
-            colour: true,
-            aligned: false,
-            explain: false,
-        },
-        &mut image,
-    );
-    let n = begun.n;
-    if begun.ready {
-        explain(&rt, begun.words, &image[..n]);
+    let known = Words {
+        verdict: true,
+        open: true,
+        all: true,
+        colour: true,
+        ..Words::default()
+    };
+    if let Some(Begun { words, n }) = output::begin(&rt, b"explain", known, &mut image) {
+        let image = &image[..n];
+        let answer = explain(&mut Out::new(rt.stdout()), words, image);
+        output::end(&rt, b"explain", words, image, answer);
     }
 }

@@ -1,12 +1,11 @@
 -- What is promised of reading: the bytes counted lie in the buffer, and reading fails only where the buffer has room, so that
 -- there was something to read.
-use Rattle.std.specs.Prelude.{ℕ, ◌≡◌, ◌≤◌, ◌<◌, List, length, take}
-use Rattle.input.specs.declared.Input.{Input}
-use Rattle.input.specs.declared.Input.TheVariants.{Bytes, Failed}
+use Rattle.std.specs.Prelude.{ℕ, ◌≡◌, ◌≤◌, ◌<◌, List, length, take, Result, Ok, Err}
+use Rattle.std.specs.declared.io.Error.{Error}
 
-abbrev pub Within : ℕ → Input → Type 0
-Within size (Bytes n) = n ≤ size
-Within size (Failed _) = 0 < size
+abbrev pub Within : ℕ → Result ℕ Error → Type 0
+Within size (Ok n) = n ≤ size
+Within size (Err _) = 0 < size
 
 -- `&xs[..n]` is in bounds and has n bytes. The second part follows from the first, and spares a caller's `&buf[..n]` a proof file.
 abbrev pub IsPrefixLen : ℕ → List ℕ → Type 0

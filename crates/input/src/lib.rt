@@ -15,36 +15,24 @@ pub const BUFFER: usize = Reading::LONGEST + 1;
 // The programs' budget. The C header has it too, held to this one by tools/header.
 pub const BUDGET: u32 = 100_000_000;
 
-#[derive(Clone, Copy)]
-pub enum Input {
-    // That many bytes stand in the buffer.
-    Bytes(usize),
-    // Why it failed.
-    Failed(io::Error),
-}
-
-// Fills the buffer from standard input.
-pub fn take_in(from: &mut Stdin, buffer: &mut [u8]) -> Input
+// Fills the buffer from standard input, and says how many bytes stand in it, or why the reading failed.
+pub fn take_in(from: &mut Stdin, buffer: &mut [u8]) -> io::Result<usize>
     ensures { Within (length buffer.new) result }
 {
     take_from(from, buffer)
 }
 
 // Fills the buffer, to its end or to the end of what a reader gives.
-pub fn take_from<R: Read>(from: &mut R, buffer: &mut [u8]) -> Input
+pub fn take_from<R: Read>(from: &mut R, buffer: &mut [u8]) -> io::Result<usize>
     ensures { Within (length buffer.new) result }
 {
     let mut n: usize = 0;
     while n < buffer.len() {
-        match from.read(&mut buffer[n..]) {
-            Err(e) => return Input::Failed(e),
-            Ok(more) => {
-                if more == 0 {
-                    return Input::Bytes(n);
-                }
-                n += more;
-            }
+        let more = from.read(&mut buffer[n..])?;
+        if more == 0 {
+            break;
         }
+        n += more;
     }
-    Input::Bytes(n)
+    Ok(n)
 }

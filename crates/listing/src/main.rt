@@ -2,90 +2,49 @@
 // the library; what is printed is held to stored output by the check.
 #![tactic(auto)]
 
-use output::{Out, Verdict, Words};
-use row::Table;
+use output::{Begun, Out, Verdict, Words};
+use std::io;
 use sumpcandle::{Filled, TaskCells};
 
-fn line(out: &mut Out, whole: bool, cells: &[u32; sumpcandle::CELLS], k: usize) -> bool {
-    if Table::TASKS <= k {
-        return whole;
+fn line(out: &mut Out, k: usize, cells: &[u32]) -> io::Result<()> {
+    write!(out, "{k}")?;
+    for cell in cells {
+        out.cell(*cell, false)?;
     }
-    let mut whole = output::number(out, whole, k as u64, 0);
-    for i in 0..TaskCells::COUNT {
-        whole = output::cell(out, whole, cells[TaskCells::COUNT * k + i], false);
-    }
-    output::say(out, whole, b"\n")
+    out.say(b"\n")
 }
 
-fn lines(out: &mut Out, cells: &[u32; sumpcandle::CELLS], tasks: usize) -> bool {
-    let mut whole = output::say(
-        out,
-        true,
-        b"task code bound evaluations mode candidate job\n",
-    );
-    for k in 0..tasks {
-        whole = line(out, whole, cells, k);
+fn lines(out: &mut Out, cells: &[u32], tasks: usize) -> io::Result<()> {
+    out.say(b"task code bound evaluations mode candidate job\n")?;
+    for (k, task) in cells.chunks_exact(TaskCells::COUNT).take(tasks).enumerate() {
+        line(out, k, task)?;
     }
-    whole
+    Ok(())
 }
 
-fn found(cells: &[u32; sumpcandle::CELLS], tasks: usize) -> Verdict {
-    if TaskCells::all_kept(cells, tasks) {
-        Verdict::Kept
-    } else {
-        Verdict::NotShown
-    }
-}
-
-fn refused(out: &mut Out, told: Filled) -> bool {
-    let whole = output::say(out, true, b"refused");
-    let whole = output::cell(out, whole, told.number(), false);
-    let whole = output::say(out, whole, b" ");
-    let whole = output::number(out, whole, told.place() as u64, 0);
-    output::say(out, whole, b"\n")
-}
-
-fn list(rt: &HostRuntime, words: Words, image: &[u8]) {
-    let mut out = Out::new(rt.stdout());
+fn list(out: &mut Out, image: &[u8]) -> io::Result<Verdict> {
     let mut cells = [0u32; sumpcandle::CELLS];
-    let told = sumpcandle::cells(image, input::BUDGET, &mut cells);
-    match told {
+    match sumpcandle::cells(image, input::BUDGET, &mut cells) {
         Filled::Done(tasks) => {
-            let whole = lines(&mut out, &cells, tasks);
-            output::end(
-                rt,
-                &out,
-                b"listing",
-                words,
-                image,
-                whole,
-                found(&cells, tasks),
-            );
+            lines(out, &cells, tasks)?;
+            Ok(Verdict::accepted(TaskCells::all_kept(&cells, tasks)))
         }
-        Filled::Refused(_, _) => {
-            let whole = refused(&mut out, told);
-            output::end(rt, &out, b"listing", words, image, whole, Verdict::Refused);
+        Filled::Refused(refusal, at) => {
+            write!(out, "refused {} {at}\n", refusal.number())?;
+            Ok(Verdict::Refused)
         }
     }
 }
 
 fn main(rt: HostRuntime) {
     let mut image = [0u8; input::BUFFER];
-    let begun = output::begin(
-        &rt,
-        b"listing",
-        Words {
-            verdict: true,
-            open: false,
-            all: false,
-            colour: false,
-            aligned: false,
-            explain: false,
-        },
-        &mut image,
-    );
-    let n = begun.n;
-    if begun.ready {
-        list(&rt, begun.words, &image[..n]);
+    let known = Words {
+        verdict: true,
+        ..Words::default()
+    };
+    if let Some(Begun { words, n }) = output::begin(&rt, b"listing", known, &mut image) {
+        let image = &image[..n];
+        let answer = list(&mut Out::new(rt.stdout()), image);
+        output::end(&rt, b"listing", words, image, answer);
     }
 }

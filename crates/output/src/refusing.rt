@@ -1,111 +1,86 @@
 // A refusal in words: its number, its reason, and its place by byte, bit and field.
-ghost use Rattle.page.specs.Whole.{Keeps};
+ghost use Rattle.page.specs.Handle.{Writes};
 
 use image::{Due, due_at};
-use page::{Out, both, count, grouped, number, say};
+use page::{Grouped, Out};
 use places::Field;
 use refusals::Refusal;
+use std::io;
 
-// A deadline that nobody could keep, and what it should have room for, of the task of which some field holds that bit position.
-fn short(out: &mut Out, whole: bool, image: &[u8], at: usize) -> bool {
-    match due_at(image, at) {
-        Due::Of(offset, time, deadline) => {
-            let whole = count(
-                out,
-                whole,
-                b"a deadline of ",
-                deadline as u64,
-                b", below offset ",
-            );
-            let whole = count(out, whole, b"", offset as u64, b" plus greatest time ");
-            grouped(out, whole, time as u64, 0)
-        }
-        Due::NoTask => say(out, whole, b"a deadline below offset plus greatest time"),
-    }
-}
-
-fn reason(out: &mut Out, whole: bool, image: &[u8], refusal: Refusal, at: usize) -> bool {
+fn words(refusal: Refusal) -> &'static str {
     match refusal {
-        Refusal::EndsInside => say(out, whole, b"it ends inside a field"),
-        Refusal::EditionUnknown => say(out, whole, b"edition is not 1"),
-        Refusal::FrameZero => say(out, whole, b"the major frame is 0"),
-        Refusal::TransactionCount => say(out, whole, b"not 1 to 63 transactions"),
-        Refusal::PeriodUnfit => say(
-            out,
-            whole,
-            b"a period that is 0 or does not divide the major frame",
-        ),
-        Refusal::ModeCount => say(out, whole, b"not 1 to 8 modes"),
-        Refusal::TaskCount => say(
-            out,
-            whole,
-            b"not 1 to 16 tasks in a transaction, or more than 128 in all",
-        ),
-        Refusal::DeadlineZero => say(out, whole, b"a deadline of 0"),
-        Refusal::NeverRuns => say(out, whole, b"a task with time 0 in every mode"),
-        Refusal::PaddingSet => say(out, whole, b"a padding bit is 1"),
-        Refusal::BytesFollow => say(out, whole, b"bytes follow the table"),
-        Refusal::NoRoom => say(out, whole, b"too few cells for the answers"),
-        Refusal::NoTask => say(out, whole, b"no task of that number"),
-        Refusal::DeadlineShort => short(out, whole, image, at),
-        Refusal::TooLarge => say(out, whole, b"a number too large for its field"),
-        Refusal::BufferShort => say(out, whole, b"the buffer is too short"),
+        Refusal::EndsInside => "it ends inside a field",
+        Refusal::EditionUnknown => "edition is not 1",
+        Refusal::FrameZero => "the major frame is 0",
+        Refusal::TransactionCount => "not 1 to 63 transactions",
+        Refusal::PeriodUnfit => "a period that is 0 or does not divide the major frame",
+        Refusal::ModeCount => "not 1 to 8 modes",
+        Refusal::TaskCount => "not 1 to 16 tasks in a transaction, or more than 128 in all",
+        Refusal::DeadlineZero => "a deadline of 0",
+        Refusal::NeverRuns => "a task with time 0 in every mode",
+        Refusal::PaddingSet => "a padding bit is 1",
+        Refusal::BytesFollow => "bytes follow the table",
+        Refusal::NoRoom => "too few cells for the answers",
+        Refusal::NoTask => "no task of that number",
+        Refusal::DeadlineShort => "a deadline below offset plus greatest time",
+        Refusal::TooLarge => "a number too large for its field",
+        Refusal::BufferShort => "the buffer is too short",
     }
 }
 
-// A text, and behind it a number.
-fn counted(out: &mut Out, whole: bool, text: &[u8], n: usize) -> bool
-    ensures { Keeps whole result }
+// The reason; of a deadline that nobody could keep with its numbers, where some field of a task holds that bit position.
+fn reason(out: &mut Out, image: &[u8], refusal: Refusal, at: usize) -> io::Result<()>
+    ensures { Writes out.old out.new result }
 {
-    let whole = say(out, whole, text);
-    number(out, whole, n as u64, 0)
+    if let Refusal::DeadlineShort = refusal {
+        if let Due::Of(offset, time, deadline) = due_at(image, at) {
+            return write!(
+                out,
+                "a deadline of {}, below offset {} plus greatest time {}",
+                Grouped(u64::from(deadline)),
+                Grouped(u64::from(offset)),
+                Grouped(u64::from(time)),
+            );
+        }
+    }
+    out.say(words(refusal).as_bytes())
 }
 
-fn of_task(out: &mut Out, whole: bool, text: &[u8], u: usize, k: usize) -> bool
-    ensures { Keeps whole result }
+fn named(out: &mut Out, at: Field, refusal: Refusal) -> io::Result<()>
+    ensures { Writes out.old out.new result }
 {
-    let whole = counted(out, whole, text, k);
-    counted(out, whole, b", transaction ", u)
-}
-
-fn named(out: &mut Out, whole: bool, at: Field, refusal: Refusal) -> bool {
     match at {
-        Field::Edition => say(out, whole, b"edition"),
-        Field::Frame => say(out, whole, b"major frame"),
-        Field::Transactions => say(out, whole, b"number of transactions"),
-        Field::Period(u) => counted(out, whole, b"period of transaction ", u),
-        Field::Modes(u) => counted(out, whole, b"number of modes of transaction ", u),
-        Field::Tasks(u) => counted(out, whole, b"number of tasks of transaction ", u),
-        Field::Offset(u, k) => of_task(out, whole, b"offset of task ", u, k),
-        Field::Jitter(u, k) => of_task(out, whole, b"jitter of task ", u, k),
-        Field::Blocking(u, k) => of_task(out, whole, b"blocking of task ", u, k),
-        Field::Deadline(u, k) => of_task(out, whole, b"deadline of task ", u, k),
-        Field::Priority(u, k) => of_task(out, whole, b"priority of task ", u, k),
+        Field::Edition => write!(out, "edition"),
+        Field::Frame => write!(out, "major frame"),
+        Field::Transactions => write!(out, "number of transactions"),
+        Field::Period(u) => write!(out, "period of transaction {u}"),
+        Field::Modes(u) => write!(out, "number of modes of transaction {u}"),
+        Field::Tasks(u) => write!(out, "number of tasks of transaction {u}"),
+        Field::Offset(u, k) => write!(out, "offset of task {k}, transaction {u}"),
+        Field::Jitter(u, k) => write!(out, "jitter of task {k}, transaction {u}"),
+        Field::Blocking(u, k) => write!(out, "blocking of task {k}, transaction {u}"),
+        Field::Deadline(u, k) => write!(out, "deadline of task {k}, transaction {u}"),
+        Field::Priority(u, k) => write!(out, "priority of task {k}, transaction {u}"),
         Field::Time(u, k, m) => {
-            let whole = counted(out, whole, b"execution time of task ", k);
-            let whole = counted(out, whole, b" in mode ", m);
-            counted(out, whole, b", transaction ", u)
+            write!(
+                out,
+                "execution time of task {k} in mode {m}, transaction {u}"
+            )
         }
         Field::Behind => match refusal {
-            Refusal::BytesFollow => say(out, whole, b"the first byte behind the table"),
-            _ => say(out, whole, b"padding"),
+            Refusal::BytesFollow => write!(out, "the first byte behind the table"),
+            _ => write!(out, "padding"),
         },
     }
 }
 
 // The line for an image that is refused.
-pub fn refused(out: &mut Out, whole: bool, image: &[u8], refusal: Refusal, at: usize) -> bool
-    ensures { Keeps whole result }
+pub fn refused(out: &mut Out, image: &[u8], refusal: Refusal, at: usize) -> io::Result<()>
+    ensures { Writes out.old out.new result }
 {
-    let whole = counted(out, whole, b"image refused (", refusal.number() as usize);
-    let whole = say(out, whole, b"): ");
-    let whole = both(whole, reason(out, whole, image, refusal, at));
-    let whole = counted(out, whole, b", at byte ", at / 8);
-    let whole = counted(out, whole, b", bit ", at % 8);
-    let whole = say(out, whole, b": ");
-    let whole = both(
-        whole,
-        named(out, whole, places::field_at(image, at), refusal),
-    );
-    say(out, whole, b"\n")
+    write!(out, "image refused ({}): ", refusal.number())?;
+    reason(out, image, refusal, at)?;
+    write!(out, ", at byte {}, bit {}: ", at / 8, at % 8)?;
+    named(out, places::field_at(image, at), refusal)?;
+    out.say(b"\n")
 }

@@ -1,5 +1,5 @@
-// Writing to standard output. Each writer is told whether every write so far was taken, writes only then, and says the same of
-// its own: behind a write that failed nothing is written, and the handle keeps its reason to the program's end.
+// Writing to standard output. The handle keeps whether every write so far was taken, and why one was not: behind a write that failed
+// nothing is written, and each writer says why, to the program's end.
 #![tactic(auto)]
 
 mod handle;
@@ -18,21 +18,10 @@ const DIGITS: usize = 20;
 
 const WIDEST: usize = 26;
 
-// The width of a column of numbers that are aligned.
-const ALIGNED: usize = 9;
-
 pub fn say(out: &mut Out, whole: bool, text: &[u8]) -> bool
     ensures { Keeps whole result }
 {
     if whole { out.say(text).is_ok() } else { false }
-}
-
-// Whole before, and whole after.
-pub fn both(before: bool, after: bool) -> bool
-    ensures before { Keeps before result }
-    ensures after { Keeps after result }
-{
-    if before { after } else { false }
 }
 
 // The last digit of a number.
@@ -60,87 +49,4 @@ fn spell(n: u64, group: usize, text: &mut [u8; WIDEST]) -> usize
         i += 1;
     }
     at
-}
-
-// The end of a text, from a place on, or as wide as asked.
-fn tail(out: &mut Out, whole: bool, text: &[u8; WIDEST], at: usize, width: usize) -> bool
-    ensures { Keeps whole result }
-{
-    let all = &text[..];
-    if all.len() < width {
-        return say(out, whole, all);
-    }
-    let from = all.len() - width;
-    if from < at {
-        return say(out, whole, &all[from..]);
-    }
-    if at <= all.len() {
-        return say(out, whole, &all[at..]);
-    }
-    whole
-}
-
-fn figure(out: &mut Out, whole: bool, n: u64, width: usize, group: usize) -> bool
-    requires { 2 < group }
-    ensures { Keeps whole result }
-{
-    let mut text = [b' '; WIDEST];
-    let at = spell(n, group, &mut text);
-    tail(out, whole, &text, at, width)
-}
-
-// A number, with blanks before it to fill a column.
-pub fn number(out: &mut Out, whole: bool, n: u64, width: usize) -> bool
-    ensures { Keeps whole result }
-{
-    figure(out, whole, n, width, DIGITS)
-}
-
-// The same with a comma between thousands.
-pub fn grouped(out: &mut Out, whole: bool, n: u64, width: usize) -> bool
-    ensures { Keeps whole result }
-{
-    figure(out, whole, n, width, 3)
-}
-
-// A number behind a blank, in a column where the numbers are aligned.
-pub fn cell(out: &mut Out, whole: bool, n: u32, aligned: bool) -> bool
-    ensures { Keeps whole result }
-{
-    let whole = say(out, whole, b" ");
-    if aligned {
-        number(out, whole, n as u64, ALIGNED)
-    } else {
-        number(out, whole, n as u64, 0)
-    }
-}
-
-// A number with commas between two texts.
-pub fn count(out: &mut Out, whole: bool, before: &[u8], n: u64, after: &[u8]) -> bool
-    ensures { Keeps whole result }
-{
-    let whole = say(out, whole, before);
-    let whole = grouped(out, whole, n, 0);
-    say(out, whole, after)
-}
-
-// A line in red stands between the two; the line feed is behind it.
-pub fn begin_line(out: &mut Out, whole: bool, red: bool) -> bool
-    ensures { Keeps whole result }
-{
-    if red {
-        say(out, whole, b"\x1b[31m")
-    } else {
-        whole
-    }
-}
-
-pub fn end_line(out: &mut Out, whole: bool, red: bool) -> bool
-    ensures { Keeps whole result }
-{
-    if red {
-        say(out, whole, b"\x1b[0m\n")
-    } else {
-        say(out, whole, b"\n")
-    }
 }

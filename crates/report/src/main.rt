@@ -18,13 +18,13 @@ ghost use Rattle.input.specs.Input.{IsPrefixLen};
 use compared::Old;
 use facts::Facts;
 use image::Reading;
-use input::Input;
 use output::{Out, Verdict, Words};
 use page::{Pen, SHEET};
 use refusals::{Answer, Refusal};
 use request::Asked;
 use row::Table;
 use std::fs::File;
+use std::io;
 use sumpcandle::TaskCells;
 
 // Descriptors 4 and 5.
@@ -38,11 +38,7 @@ const NAMES: usize = 16_384;
 fn words(verdict: bool) -> Words {
     Words {
         verdict,
-        open: false,
-        all: false,
-        colour: false,
-        aligned: false,
-        explain: false,
+        ..Words::default()
     }
 }
 
@@ -62,8 +58,8 @@ fn take(rt: &HostRuntime, wanted: bool, file: &str, what: &[u8], buffer: &mut [u
     }
     let why = match File::open(rt, file) {
         Ok(mut from) => match input::take_from(&mut from, buffer) {
-            Input::Bytes(n) => return Taken { fully: true, n },
-            Input::Failed(why) => why,
+            Ok(n) => return Taken { fully: true, n },
+            Err(why) => why,
         },
         Err(why) => why,
     };
@@ -79,6 +75,15 @@ fn ended(sheet: &mut [u8; SHEET], pen: Pen, a: Asked) -> Pen {
         page::put(sheet, pen, b"</body>\n</html>\n")
     };
     page::flush(&*sheet, pen)
+}
+
+// What was found, or why the page could not be written.
+fn answer(pen: Pen, verdict: Verdict) -> io::Result<Verdict> {
+    if pen.whole {
+        Ok(verdict)
+    } else {
+        Err(pen.out.reason())
+    }
 }
 
 fn verdict(cells: &[u32; sumpcandle::CELLS], tasks: usize) -> Verdict {
@@ -139,12 +144,10 @@ fn accepted(
     let pen = ended(sheet, pen, a);
     output::end(
         rt,
-        &pen.out,
         b"report",
         words(a.verdict),
         image,
-        pen.whole,
-        verdict(&cells, tasks),
+        answer(pen, verdict(&cells, tasks)),
     );
 }
 
@@ -174,12 +177,10 @@ fn refuse(
     let pen = ended(sheet, pen, a);
     output::end(
         rt,
-        &pen.out,
         b"report",
         words(a.verdict),
         image,
-        pen.whole,
-        Verdict::Refused,
+        answer(pen, Verdict::Refused),
     );
 }
 
@@ -229,15 +230,7 @@ fn around(rt: &HostRuntime, sheet: &mut [u8; SHEET], title: &[u8]) {
         page::put(sheet, pen, b"</body>\n</html>\n")
     };
     let pen = page::flush(&*sheet, pen);
-    output::end(
-        rt,
-        &pen.out,
-        b"report",
-        words(false),
-        b"",
-        pen.whole,
-        Verdict::Kept,
-    );
+    output::end(rt, b"report", words(false), b"", answer(pen, Verdict::Kept));
 }
 
 // One step for each thing that is taken in, each with its own buffer.
@@ -291,8 +284,8 @@ fn with_key(rt: &HostRuntime, a: Asked, key: u64, name: &[u8]) {
     let mut image = [0u8; input::BUFFER];
     let mut from = rt.stdin();
     match input::take_in(&mut from, &mut image) {
-        Input::Bytes(n) => with_image(rt, a, &image[..n], key, name),
-        Input::Failed(why) => output::failed(rt, b"report", b": the input cannot be read", why),
+        Ok(n) => with_image(rt, a, &image[..n], key, name),
+        Err(why) => output::failed(rt, b"report", b": the input cannot be read", why),
     }
 }
 

@@ -101,7 +101,7 @@ pub(crate) fn place(
     );
     let pen = page::flush(&*sheet, pen);
     let mut out = pen.out;
-    let whole = output::refused(&mut out, pen.whole, image, refusal, at);
+    let whole = pen.whole && output::refused(&mut out, image, refusal, at).is_ok();
     let pen = page::put(sheet, Pen { at: 0, whole, out }, b"</p>\n");
     let byte = at / 8;
     let pen = around(sheet, pen, image, byte);

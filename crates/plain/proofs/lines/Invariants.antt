@@ -1,7 +1,6 @@
--- `plain::lines` ends: each turn leaves fewer tasks; and the tasks passed are those that are counted.
-use mathlib.Core.Path.{◌≡◌}
+-- `plain::lines` counts no more tasks than it has passed.
 use Prim.Native.Nat.{◌+◌, ◌≤◌}
 use Rattle.plain.proofs.lines.Given as goal
 
 abbrev pub invariant-loop-k : goal.invariant-loop-k
-invariant-loop-k l = (l.k ≤ l.tasks) × (l.s.agree + l.s.above + l.s.apart ≡ l.k)
+invariant-loop-k l = l.all.agree + l.all.above + l.all.apart ≤ l.k

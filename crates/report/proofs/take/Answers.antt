@@ -6,11 +6,11 @@ use lib.Seq.{length-take-le}
 use Rattle.input.specs.Input.{Within}
 use Rattle.report.proofs.take.Goals as goal
 
-pub returns-in-Bytes : goal.returns-in-Bytes
-returns-in-Bytes c =
-    let n = c.in-Bytes.n in
+pub returns-in-Ok-take_from : goal.returns-in-Ok-take_from
+returns-in-Ok-take_from c =
+    let n = c.in-Ok-take_from.n in
     let buffer = c.take_from.new.buffer in
     let within : n ≤ length buffer =
-    subst (Within (length buffer)) c.in-Bytes.is
+    subst (Within (length buffer)) c.in-Ok-take_from.is
     c.take_from.ensures in
     (within, sym (length-take-le n buffer within))
