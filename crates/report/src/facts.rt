@@ -1,137 +1,176 @@
-// What a page is made of: of each task a row of numbers, and what its account holds. Readers take any number and give 0 for what is
-// not there, so that who prints decides nothing.
-ghost use Rattle.std.specs.Prelude.{◌≤◌};
-
+// What a page is made of: what the library told of each task, and what stands beside it. Who prints decides nothing.
+use super::bars::Scale;
 use account::Account;
-use parts::Charge;
-use row::Table;
+use page::Sheet;
+use parts::{Charge, Parts};
+use row::{Table, Transaction};
+use std::io;
+use told::{Code, TaskCells};
 
+// Above every bound and every deadline.
+const FAR: u64 = 4_294_967_296;
+
+// What another transaction charges a task: the ticks, and the mode and the candidate that give them.
 #[derive(Clone, Copy)]
-pub(crate) struct Facts;
+pub(crate) struct Charged {
+    pub(crate) ticks: u64,
+    pub(crate) mode: u64,
+    pub(crate) candidate: usize,
+}
 
-impl Facts {
-    // The cells of a task, as the library gives them.
-    pub(crate) const CODE: usize = 0;
+// How a task of its own transaction stands from the critical instant on: its phase, its jobs held back, and what it charges.
+#[derive(Clone, Copy)]
+pub(crate) struct Lane {
+    pub(crate) phase: u64,
+    pub(crate) held: u64,
+    pub(crate) ticks: u64,
+}
 
-    pub(crate) const BOUND: usize = 1;
+// A bound: who gave it, and what it is made of.
+#[derive(Clone, Copy)]
+pub(crate) struct Bound {
+    pub(crate) ticks: u64,
+    pub(crate) mode: usize,
+    pub(crate) candidate: usize,
+    // How many jobs of the task there are up to the one that gives it.
+    pub(crate) count: u64,
+    pub(crate) completion: u64,
+    pub(crate) offset: u64,
+    pub(crate) blocking: u64,
+    pub(crate) jobs: u64,
+    pub(crate) rivals: u64,
+    pub(crate) charges: [Charged; Table::TRANSACTIONS],
+    pub(crate) lanes: [Lane; Transaction::TASKS],
+}
 
-    pub(crate) const MODE: usize = 2;
+impl Bound {
+    pub(crate) fn new(c: TaskCells, parts: Parts, cells: &[u64; Account::CELLS]) -> Bound {
+        Bound {
+            ticks: u64::from(c.bound),
+            mode: c.mode as usize,
+            candidate: c.candidate as usize,
+            count: u64::from(c.job) + 1,
+            completion: u64::from(parts.completion),
+            offset: u64::from(parts.offset),
+            blocking: u64::from(parts.blocking),
+            jobs: u64::from(parts.jobs),
+            rivals: u64::from(parts.rivals),
+            charges: charges(cells),
+            lanes: lanes(cells),
+        }
+    }
+}
 
-    pub(crate) const CANDIDATE: usize = 3;
+fn charges(cells: &[u64; Account::CELLS]) -> [Charged; Table::TRANSACTIONS] {
+    let none = Charged {
+        ticks: 0,
+        mode: 0,
+        candidate: 0,
+    };
+    let mut charges = [none; Table::TRANSACTIONS];
+    for i in 0..Table::TRANSACTIONS {
+        let at = Account::CHARGES + Charge::COUNT * i;
+        charges[i] = Charged {
+            ticks: cells[at],
+            mode: cells[at + 1],
+            candidate: cells[at + 2] as usize,
+        };
+    }
+    charges
+}
 
-    pub(crate) const JOB: usize = 4;
+fn lanes(cells: &[u64; Account::CELLS]) -> [Lane; Transaction::TASKS] {
+    let none = Lane {
+        phase: 0,
+        held: 0,
+        ticks: 0,
+    };
+    let mut lanes = [none; Transaction::TASKS];
+    for j in 0..Transaction::TASKS {
+        let at = Account::SHARES + account::Share::COUNT * j;
+        lanes[j] = Lane {
+            phase: cells[at],
+            held: cells[at + 1],
+            ticks: cells[at + 2],
+        };
+    }
+    lanes
+}
 
-    // What its bound is made of.
-    pub(crate) const COMPLETION: usize = 5;
-
-    pub(crate) const OFFSET: usize = 6;
-
-    pub(crate) const BLOCKING: usize = 7;
-
-    pub(crate) const JOBS: usize = 8;
-
-    pub(crate) const RIVALS: usize = 9;
-
-    pub(crate) const DEADLINE: usize = 10;
-
-    // Its transaction.
-    pub(crate) const OWNER: usize = 11;
-
-    // Where its name begins and ends.
-    pub(crate) const NAME: usize = 12;
-
-    pub(crate) const NAME_END: usize = 13;
-
+// A task.
+#[derive(Clone, Copy)]
+pub(crate) struct Fact<'a> {
+    pub(crate) number: usize,
+    // Any bytes, none where it has no name.
+    pub(crate) name: &'a [u8],
+    pub(crate) owner: usize,
+    pub(crate) deadline: u64,
+    pub(crate) code: Code,
+    pub(crate) bound: Option<Bound>,
     // Its bound in the table that this one is compared with.
-    pub(crate) const OLD: usize = 14;
+    pub(crate) old: Option<u64>,
+}
+
+impl Fact<'_> {
+    // What is known before the library is asked.
+    pub(crate) fn unknown() -> Self {
+        Fact {
+            number: 0,
+            name: b"",
+            owner: 0,
+            deadline: 0,
+            code: Code::Kept,
+            bound: None,
+            old: None,
+        }
+    }
+
+    // Whether it is not shown to be in time.
+    pub(crate) fn is_open(&self) -> bool {
+        self.code != Code::Kept
+    }
+
+    pub(crate) fn ticks(&self) -> Option<u64> {
+        self.bound.as_ref().map(|bound| bound.ticks)
+    }
 
     // By which tasks are put in order: what is to spare, and 0 without a bound.
-    pub(crate) const KEY: usize = 15;
-
-    pub(crate) const COUNT: usize = 16;
-
-    pub(crate) const CELLS: usize = Facts::COUNT * Table::TASKS;
-
-    // The accounts of all tasks.
-    pub(crate) const ACCOUNTS: usize = Account::CELLS * Table::TASKS;
-}
-
-pub(crate) fn fact(facts: &[u64; Facts::CELLS], k: usize, f: usize) -> u64 {
-    if Table::TASKS <= k {
-        return 0;
+    pub(crate) fn spare(&self) -> u64 {
+        match self.ticks() {
+            Some(ticks) => FAR.saturating_add(self.deadline).saturating_sub(ticks),
+            None => 0,
+        }
     }
-    if Facts::COUNT <= f {
-        return 0;
+}
+
+// The name of a table, and the number that tells it apart from the others of its page.
+#[derive(Clone, Copy)]
+pub(crate) struct Title<'a> {
+    pub(crate) key: u64,
+    pub(crate) name: &'a [u8],
+}
+
+// A table whose tasks are told: on which scale, and whether their bounds are compared.
+#[derive(Clone, Copy)]
+pub(crate) struct Told<'a> {
+    pub(crate) key: u64,
+    pub(crate) table: &'a [u32],
+    pub(crate) tasks: &'a [Fact<'a>],
+    pub(crate) scale: Scale,
+    pub(crate) compared: bool,
+}
+
+impl Told<'_> {
+    // A task by its number, and its name where it has one.
+    pub(crate) fn named(&self, sheet: &mut Sheet, k: usize) -> io::Result<()> {
+        sheet.fill(b"task @", &[k as u64])?;
+        match self.tasks.get(k) {
+            Some(task) if !task.name.is_empty() => {
+                sheet.put(b" <bdi>")?;
+                sheet.escaped(task.name)?;
+                sheet.put(b"</bdi>")
+            }
+            _ => Ok(()),
+        }
     }
-    facts[Facts::COUNT * k + f]
-}
-
-pub(crate) fn set(facts: &mut [u64; Facts::CELLS], k: usize, f: usize, n: u64) {
-    if Table::TASKS <= k {
-        return;
-    }
-    if Facts::COUNT <= f {
-        return;
-    }
-    facts[Facts::COUNT * k + f] = n;
-}
-
-fn kept(accounts: &[u64; Facts::ACCOUNTS], k: usize, c: usize) -> u64 {
-    if Table::TASKS <= k {
-        return 0;
-    }
-    if Account::CELLS <= c {
-        return 0;
-    }
-    accounts[Account::CELLS * k + c]
-}
-
-// Of what transaction i charges task k: ticks, mode or candidate.
-pub(crate) fn charged(accounts: &[u64; Facts::ACCOUNTS], k: usize, i: usize, c: usize) -> u64 {
-    if Table::TRANSACTIONS <= i {
-        return 0;
-    }
-    if Charge::COUNT <= c {
-        return 0;
-    }
-    kept(accounts, k, Account::CHARGES + Charge::COUNT * i + c)
-}
-
-// Of the task at place j of its transaction: phase, jobs held back, or ticks.
-pub(crate) fn share(accounts: &[u64; Facts::ACCOUNTS], k: usize, j: usize, c: usize) -> u64 {
-    if row::Transaction::TASKS <= j {
-        return 0;
-    }
-    if account::Share::COUNT <= c {
-        return 0;
-    }
-    kept(accounts, k, Account::SHARES + account::Share::COUNT * j + c)
-}
-
-// x − y, or 0.
-pub(crate) fn less(x: u64, y: u64) -> u64 {
-    if y < x { x - y } else { 0 }
-}
-
-// x + y; what does not fit is none of the numbers of a table.
-pub(crate) fn plus(x: u64, y: u64) -> u64 {
-    if x <= u64::MAX - y { x + y } else { u64::MAX }
-}
-
-pub(crate) fn greater(x: u64, y: u64) -> u64 {
-    if x < y { y } else { x }
-}
-
-pub(crate) fn index(n: u64) -> usize {
-    n as usize
-}
-
-pub(crate) fn wide(n: u32) -> u64 {
-    n as u64
-}
-
-pub(crate) fn fewer(x: usize, y: usize) -> usize
-    ensures { result ≤ x }
-{
-    if y < x { y } else { x }
 }

@@ -13,15 +13,15 @@ mod style;
 mod tasks;
 mod top;
 
-ghost use Rattle.input.specs.Input.{IsPrefixLen};
+ghost use Rattle.std.specs.Prelude.{◌≤◌, IfOk, length};
 
-use compared::Old;
-use facts::Facts;
-use image::Reading;
+use bars::Scale;
+use compared::{Old, Outcome};
+use facts::{Fact, Title, Told};
 use output::{Out, Verdict, Words};
-use page::{Pen, SHEET};
+use page::Sheet;
 use refusals::{Answer, Refusal};
-use request::Asked;
+use request::{Asked, Piece};
 use row::Table;
 use std::fs::File;
 use std::io;
@@ -42,265 +42,188 @@ fn words(verdict: bool) -> Words {
     }
 }
 
-// How many bytes a file gave, and whether it could be read.
+// What could not be read, and why.
 #[derive(Clone, Copy)]
-struct Taken {
-    fully: bool,
-    n: usize,
+struct Unread {
+    what: &'static [u8],
+    why: io::Error,
 }
 
-// Nothing is read that is not wanted. Where it cannot be read, standard error says so.
-fn take(rt: &HostRuntime, wanted: bool, file: &str, what: &[u8], buffer: &mut [u8]) -> Taken
-    ensures { IsPrefixLen result.n buffer.new }
+fn take_file(rt: &HostRuntime, file: &str, buffer: &mut [u8]) -> io::Result<usize>
+    ensures { IfOk result (λ n. n ≤ length buffer.new) }
 {
+    input::take_from(&mut File::open(rt, file)?, buffer)
+}
+
+// Nothing is read that is not wanted.
+fn take<'a>(
+    rt: &HostRuntime,
+    wanted: bool,
+    file: &str,
+    what: &'static [u8],
+    buffer: &'a mut [u8],
+) -> Result<&'a [u8], Unread> {
     if !wanted {
-        return Taken { fully: true, n: 0 };
+        return Ok(b"");
     }
-    let why = match File::open(rt, file) {
-        Ok(mut from) => match input::take_from(&mut from, buffer) {
-            Ok(n) => return Taken { fully: true, n },
-            Err(why) => why,
-        },
-        Err(why) => why,
-    };
-    output::failed(rt, b"report", what, why);
-    Taken { fully: false, n: 0 }
-}
-
-fn ended(sheet: &mut [u8; SHEET], pen: Pen, a: Asked) -> Pen {
-    let pen = page::put(sheet, pen, b"</article>\n");
-    let pen = if a.entry {
-        pen
-    } else {
-        page::put(sheet, pen, b"</body>\n</html>\n")
-    };
-    page::flush(&*sheet, pen)
-}
-
-// What was found, or why the page could not be written.
-fn answer(pen: Pen, verdict: Verdict) -> io::Result<Verdict> {
-    if pen.whole {
-        Ok(verdict)
-    } else {
-        Err(pen.out.reason())
+    match take_file(rt, file, buffer) {
+        Ok(n) => Ok(&buffer[..n]),
+        Err(why) => Err(Unread { what, why }),
     }
 }
 
-fn verdict(cells: &[u32; sumpcandle::CELLS], tasks: usize) -> Verdict {
-    if TaskCells::all_kept(cells, tasks) {
-        Verdict::Kept
-    } else {
-        Verdict::NotShown
-    }
+// A table, and what it is told with.
+#[derive(Clone, Copy)]
+struct Taken<'a> {
+    asked: Asked,
+    image: &'a [u8],
+    title: Title<'a>,
+    // A name for each task, one a line.
+    names: &'a [u8],
+    old: Option<Old<'a>>,
 }
 
-fn accepted(
-    rt: &HostRuntime,
-    sheet: &mut [u8; SHEET],
-    a: Asked,
-    image: &[u8],
-    table: &[u32],
-    names: &[u8],
-    old: &[u8],
-    key: u64,
-    name: &[u8],
-    old_name: &[u8],
-) {
-    let tasks = Table::in_all(table) as usize;
-    let mut facts = [0u64; Facts::CELLS];
-    let mut accounts = [0u64; Facts::ACCOUNTS];
-    let mut cells = [0u32; sumpcandle::CELLS];
-    gather::names(names, &mut facts);
-    gather::every(image, table, tasks, &mut facts, &mut accounts, &mut cells);
-    let was = compared::with(a.against, old, table, &mut facts);
-    let open = top::open(&facts, tasks);
-    let pen = Pen {
-        at: 0,
-        whole: true,
-        out: Out::new(rt.stdout()),
-    };
-    let pen = if a.entry {
-        top::line(sheet, pen, key, name, tasks, open)
-    } else {
-        top::begin(sheet, pen, name)
-    };
-    let pen = top::heading(sheet, pen, key, name);
-    let pen = top::verdict(sheet, pen, &facts, names, key, tasks, open);
-    let pen = top::bytes(sheet, pen, image);
-    let pen = top::counts(sheet, pen, table, tasks);
-    let pen = compared::told(sheet, pen, was, &facts, tasks, old, old_name);
-    let pen = top::reading(sheet, pen);
-    let pen = tasks::every(
-        sheet,
-        pen,
-        table,
-        &facts,
-        &accounts,
-        names,
-        key,
-        tasks,
-        compared::is_done(was),
-    );
-    let pen = ended(sheet, pen, a);
-    output::end(
-        rt,
-        b"report",
-        words(a.verdict),
-        image,
-        answer(pen, verdict(&cells, tasks)),
-    );
-}
-
-fn refuse(
-    rt: &HostRuntime,
-    sheet: &mut [u8; SHEET],
-    a: Asked,
-    image: &[u8],
-    key: u64,
-    name: &[u8],
-    refusal: Refusal,
-    at: usize,
-) {
-    let pen = Pen {
-        at: 0,
-        whole: true,
-        out: Out::new(rt.stdout()),
-    };
-    let pen = if a.entry {
-        top::line_refused(sheet, pen, key, name, refusal.number())
-    } else {
-        top::begin(sheet, pen, name)
-    };
-    let pen = top::heading(sheet, pen, key, name);
-    let pen = top::bytes(sheet, pen, image);
-    let pen = refused::place(sheet, pen, image, refusal, at);
-    let pen = ended(sheet, pen, a);
-    output::end(
-        rt,
-        b"report",
-        words(a.verdict),
-        image,
-        answer(pen, Verdict::Refused),
-    );
-}
-
-// The table on standard input.
-fn table(
-    rt: &HostRuntime,
-    sheet: &mut [u8; SHEET],
-    a: Asked,
-    image: &[u8],
-    names: &[u8],
-    old: &[u8],
-    key: u64,
-    name: &[u8],
-    old_name: &[u8],
-) {
-    let reading = image::read(image);
-    let answer = reading.answer;
-    match answer {
-        Answer::Refused(refusal, at) => refuse(rt, sheet, a, image, key, name, refusal, at),
-        Answer::Accepted => accepted(
-            rt,
-            sheet,
-            a,
+impl<'a> Taken<'a> {
+    fn new(
+        asked: Asked,
+        image: &'a [u8],
+        name: &'a [u8],
+        names: &'a [u8],
+        old: &'a [u8],
+        old_name: &'a [u8],
+    ) -> Taken<'a> {
+        let title = Title {
+            key: asked.key,
+            name,
+        };
+        let old = Old {
+            image: old,
+            name: old_name,
+        };
+        let old = if asked.against { Some(old) } else { None };
+        Taken {
+            asked,
             image,
-            &reading.table.cells,
+            title,
             names,
             old,
-            key,
-            name,
-            old_name,
-        ),
+        }
     }
+
+    fn ended(&self, sheet: &mut Sheet) -> io::Result<()> {
+        sheet.put(b"</article>\n")?;
+        if self.asked.piece == Piece::Page {
+            sheet.put(b"</body>\n</html>\n")?;
+        }
+        sheet.flush()
+    }
+
+    fn accepted(&self, sheet: &mut Sheet, table: &[u32]) -> io::Result<Verdict> {
+        let n = (Table::in_all(table) as usize).min(Table::TASKS);
+        let mut facts = [Fact::unknown(); Table::TASKS];
+        let mut rows = [0u32; sumpcandle::CELLS];
+        gather::names(self.names, &mut facts);
+        gather::every(self.image, table, &mut facts, &mut rows);
+        let compared = match self.old {
+            Some(old) => Some((old, old.compare(table, &mut facts))),
+            None => None,
+        };
+        let told = Told {
+            key: self.title.key,
+            table,
+            tasks: &facts[..n],
+            scale: Scale::new(&facts[..n]),
+            compared: matches!(compared, Some((_, Outcome::Compared))),
+        };
+        let open = top::open(told.tasks);
+        if self.asked.piece == Piece::Entry {
+            top::line(sheet, self.title, n, open)?;
+        } else {
+            top::begin(sheet, self.title.name)?;
+        }
+        top::heading(sheet, self.title)?;
+        top::verdict(sheet, &told, open)?;
+        top::bytes(sheet, self.image)?;
+        top::counts(sheet, &told)?;
+        if let Some((old, outcome)) = compared {
+            old.told(sheet, outcome, told.tasks)?;
+        }
+        top::reading(sheet)?;
+        tasks::every(sheet, &told)?;
+        self.ended(sheet)?;
+        if TaskCells::all_kept(&rows, n) {
+            Ok(Verdict::Kept)
+        } else {
+            Ok(Verdict::NotShown)
+        }
+    }
+
+    fn refused(&self, sheet: &mut Sheet, refusal: Refusal, at: usize) -> io::Result<Verdict> {
+        if self.asked.piece == Piece::Entry {
+            top::line_refused(sheet, self.title, refusal.number())?;
+        } else {
+            top::begin(sheet, self.title.name)?;
+        }
+        top::heading(sheet, self.title)?;
+        top::bytes(sheet, self.image)?;
+        refused::place(sheet, self.image, refusal, at)?;
+        self.ended(sheet)?;
+        Ok(Verdict::Refused)
+    }
+
+    fn told(&self, sheet: &mut Sheet) -> io::Result<Verdict> {
+        let reading = image::read(self.image);
+        match reading.answer {
+            Answer::Refused(refusal, at) => self.refused(sheet, refusal, at),
+            Answer::Accepted => self.accepted(sheet, &reading.table.cells),
+        }
+    }
+}
+
+// The page of one table, or its part of a page of several.
+fn table(rt: &HostRuntime, asked: Asked, name: &[u8]) -> Result<(), Unread> {
+    let mut image = [0u8; input::BUFFER];
+    let n = input::take_in(&mut rt.stdin(), &mut image).map_err(|why| Unread {
+        what: b": the input cannot be read",
+        why,
+    })?;
+    let mut names = [0u8; NAMES];
+    let what = b": the names cannot be read";
+    let names = take(rt, asked.names, NAMES_FILE, what, &mut names)?;
+    let mut old = [0u8; input::BUFFER];
+    let what = b": the table to compare with cannot be read";
+    let old = take(rt, asked.against, OLD_FILE, what, &mut old)?;
+    let mut old_name = [0u8; request::MOST];
+    let old_name = request::argument(rt, 7, &mut old_name);
+    let taken = Taken::new(asked, &image[..n], name, names, old, old_name);
+    let mut sheet = Sheet::new(Out::new(rt.stdout()));
+    let answer = taken.told(&mut sheet);
+    output::end(rt, b"report", words(asked.verdict), taken.image, answer);
+    Ok(())
 }
 
 // What stands around several tables.
-fn around(rt: &HostRuntime, sheet: &mut [u8; SHEET], title: &[u8]) {
-    let pen = Pen {
-        at: 0,
-        whole: true,
-        out: Out::new(rt.stdout()),
-    };
-    let pen = if request::is_word(rt, 1, b"top") {
-        top::several(sheet, pen, title)
-    } else if request::is_word(rt, 1, b"middle") {
-        page::put(sheet, pen, b"</table>\n</header>\n")
-    } else {
-        page::put(sheet, pen, b"</body>\n</html>\n")
-    };
-    let pen = page::flush(&*sheet, pen);
-    output::end(rt, b"report", words(false), b"", answer(pen, Verdict::Kept));
-}
-
-// One step for each thing that is taken in, each with its own buffer.
-
-fn with_old(
-    rt: &HostRuntime,
-    a: Asked,
-    image: &[u8],
-    names: &[u8],
-    key: u64,
-    name: &[u8],
-    old: &[u8],
-) {
-    let mut sheet = [0u8; SHEET];
-    let mut old_name = [0u8; request::MOST];
-    let n = request::argument(rt, 7, &mut old_name);
-    table(
-        rt,
-        &mut sheet,
-        a,
-        image,
-        names,
-        old,
-        key,
-        name,
-        &old_name[..n],
-    );
-}
-
-fn with_names(rt: &HostRuntime, a: Asked, image: &[u8], names: &[u8], key: u64, name: &[u8]) {
-    let mut old = [0u8; input::BUFFER];
-    let what = b": the table to compare with cannot be read";
-    let t = take(rt, a.against, OLD_FILE, what, &mut old);
-    let n = t.n;
-    if t.fully {
-        with_old(rt, a, image, names, key, name, &old[..n]);
+fn around(sheet: &mut Sheet, piece: Piece, title: &[u8]) -> io::Result<Verdict> {
+    match piece {
+        Piece::Top => top::several(sheet, title)?,
+        Piece::Middle => sheet.put(b"</table>\n</header>\n")?,
+        _ => sheet.put(b"</body>\n</html>\n")?,
     }
-}
-
-fn with_image(rt: &HostRuntime, a: Asked, image: &[u8], key: u64, name: &[u8]) {
-    let mut names = [0u8; NAMES];
-    let what = b": the names cannot be read";
-    let t = take(rt, a.names, NAMES_FILE, what, &mut names);
-    let n = t.n;
-    if t.fully {
-        with_names(rt, a, image, &names[..n], key, name);
-    }
-}
-
-fn with_key(rt: &HostRuntime, a: Asked, key: u64, name: &[u8]) {
-    let mut image = [0u8; input::BUFFER];
-    let mut from = rt.stdin();
-    match input::take_in(&mut from, &mut image) {
-        Ok(n) => with_image(rt, a, &image[..n], key, name),
-        Err(why) => output::failed(rt, b"report", b": the input cannot be read", why),
-    }
-}
-
-fn with_name(rt: &HostRuntime, a: Asked, name: &[u8]) {
-    let whole_page = request::is_word(rt, 1, b"page");
-    if whole_page | a.entry {
-        with_key(rt, a, request::number(rt, 5), name);
-        return;
-    }
-    let mut sheet = [0u8; SHEET];
-    around(rt, &mut sheet, name);
+    sheet.flush()?;
+    Ok(Verdict::Kept)
 }
 
 fn main(rt: HostRuntime) {
+    let asked = Asked::of_words(&rt);
     let mut name = [0u8; request::MOST];
-    let n = request::argument(&rt, 6, &mut name);
-    with_name(&rt, request::of_words(&rt), &name[..n]);
+    let name = request::argument(&rt, 6, &mut name);
+    if matches!(asked.piece, Piece::Page | Piece::Entry) {
+        if let Err(unread) = table(&rt, asked, name) {
+            output::failed(&rt, b"report", unread.what, unread.why);
+        }
+        return;
+    }
+    let mut sheet = Sheet::new(Out::new(rt.stdout()));
+    let answer = around(&mut sheet, asked.piece, name);
+    output::end(&rt, b"report", words(false), b"", answer);
 }

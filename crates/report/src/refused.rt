@@ -1,112 +1,76 @@
 // The page of a table that is refused: its number and place in words, and the bytes around it with the bit marked.
-use super::facts;
-use page::{Pen, SHEET};
+use page::Sheet;
 use refusals::Refusal;
+use std::io;
 
 // How many bytes are shown, the one of the place in their middle.
 const SHOWN: usize = 17;
 
-const BITS: [u8; 8] = [128, 64, 32, 16, 8, 4, 2, 1];
-
 // A byte of the image, marked where it is the one.
-fn shown(sheet: &mut [u8; SHEET], pen: Pen, b: u8, marked: bool) -> Pen {
+fn shown(sheet: &mut Sheet, b: u8, marked: bool) -> io::Result<()> {
+    sheet.put(b" ")?;
     if marked {
-        let pen = page::put(sheet, pen, b" <mark>");
-        let pen = page::byte(sheet, pen, b);
-        return page::put(sheet, pen, b"</mark>");
+        sheet.put(b"<mark>")?;
     }
-    let pen = page::put(sheet, pen, b" ");
-    page::byte(sheet, pen, b)
-}
-
-// Those bytes of the image from `from` on, `at` marked.
-fn run(sheet: &mut [u8; SHEET], pen: Pen, image: &[u8], from: usize, at: usize) -> Pen {
-    if image.len() <= from {
-        return pen;
+    sheet.byte(b)?;
+    if marked {
+        sheet.put(b"</mark>")?;
     }
-    let left = image.len() - from;
-    let count = facts::fewer(left, SHOWN);
-    let mut pen = pen;
-    for i in 0..count {
-        pen = shown(sheet, pen, image[from + i], from + i == at);
-    }
-    pen
+    Ok(())
 }
 
 // The bytes around the byte with that number.
-fn around(sheet: &mut [u8; SHEET], pen: Pen, image: &[u8], at: usize) -> Pen {
-    let from = if SHOWN / 2 < at { at - SHOWN / 2 } else { 0 };
-    let pen = page::fill(
-        sheet,
-        pen,
-        b"<p>From byte @ on: <span class='hex'>",
-        &[from as u64],
-    );
-    let pen = run(sheet, pen, image, from, at);
-    let pen = if image.len() <= at {
-        page::put(sheet, pen, b" <mark>end of the image</mark>")
-    } else {
-        pen
-    };
-    page::put(sheet, pen, b"</span></p>\n")
+fn around(sheet: &mut Sheet, image: &[u8], at: usize) -> io::Result<()> {
+    let from = at.saturating_sub(SHOWN / 2);
+    sheet.fill(b"<p>From byte @ on: <span class='hex'>", &[from as u64])?;
+    for (i, b) in image.iter().enumerate().skip(from).take(SHOWN) {
+        shown(sheet, *b, i == at)?;
+    }
+    if image.len() <= at {
+        sheet.put(b" <mark>end of the image</mark>")?;
+    }
+    sheet.put(b"</span></p>\n")
 }
 
-fn bit(sheet: &mut [u8; SHEET], pen: Pen, set: bool, marked: bool) -> Pen {
-    let pen = if marked {
-        page::put(sheet, pen, b"<mark>")
-    } else {
-        pen
-    };
-    let pen = if set {
-        page::put(sheet, pen, b"1")
-    } else {
-        page::put(sheet, pen, b"0")
-    };
+fn bit(sheet: &mut Sheet, set: bool, marked: bool) -> io::Result<()> {
     if marked {
-        page::put(sheet, pen, b"</mark>")
-    } else {
-        pen
+        sheet.put(b"<mark>")?;
     }
+    sheet.put(if set { b"1" } else { b"0" })?;
+    if marked {
+        sheet.put(b"</mark>")?;
+    }
+    Ok(())
 }
 
 // The bits of the byte that holds the place.
-fn bits(sheet: &mut [u8; SHEET], pen: Pen, b: u8, at: usize) -> Pen {
-    let mut pen = page::fill(
-        sheet,
-        pen,
+fn bits(sheet: &mut Sheet, b: u8, at: usize) -> io::Result<()> {
+    sheet.fill(
         b"<p>Byte @, bit by bit, the most significant first: <span class='bits'>",
         &[(at / 8) as u64],
-    );
+    )?;
     for i in 0..8 {
-        let weight = BITS[i];
-        if 0 < weight {
-            pen = bit(sheet, pen, b / weight % 2 == 1, i == at % 8);
-        }
+        bit(sheet, b >> (7 - i) & 1 == 1, i == at % 8)?;
     }
-    page::put(sheet, pen, b"</span></p>\n")
+    sheet.put(b"</span></p>\n")
 }
 
 // The refusal in words comes from the words of the desk, so what is laid so far is written first.
 pub(crate) fn place(
-    sheet: &mut [u8; SHEET],
-    pen: Pen,
+    sheet: &mut Sheet,
     image: &[u8],
     refusal: Refusal,
     at: usize,
-) -> Pen {
-    let pen = page::put(
-        sheet,
-        pen,
+) -> io::Result<()> {
+    sheet.put(
         b"</dl>\n<p class='verdict open'>&#9650; The table is refused: nothing is known of its tasks.</p>\n<p>",
-    );
-    let pen = page::flush(&*sheet, pen);
-    let mut out = pen.out;
-    let whole = pen.whole && output::refused(&mut out, image, refusal, at).is_ok();
-    let pen = page::put(sheet, Pen { at: 0, whole, out }, b"</p>\n");
-    let byte = at / 8;
-    let pen = around(sheet, pen, image, byte);
-    if byte < image.len() {
-        return bits(sheet, pen, image[byte], at);
+    )?;
+    sheet.flush()?;
+    output::refused(&mut sheet.out, image, refusal, at)?;
+    sheet.put(b"</p>\n")?;
+    around(sheet, image, at / 8)?;
+    match image.get(at / 8) {
+        Some(b) => bits(sheet, *b, at),
+        None => Ok(()),
     }
-    pen
 }

@@ -1,251 +1,131 @@
 // The tasks of a table, least to spare first: a line each, and what opens under it.
-use super::bars::Scale;
-use super::facts::Facts;
-use super::{bars, busy, facts, gather};
-use page::{Pen, SHEET};
+use super::busy::Pushed;
+use super::facts::{Bound, Fact, Told};
+use super::gather;
+use page::Sheet;
 use row::Table;
-use sumpcandle::TaskCells;
-
-// The name of a task, where it has one: any bytes.
-fn name(
-    sheet: &mut [u8; SHEET],
-    pen: Pen,
-    facts: &[u64; Facts::CELLS],
-    names: &[u8],
-    k: usize,
-) -> Pen {
-    let from = facts::index(facts::fact(facts, k, Facts::NAME));
-    let to = facts::index(facts::fact(facts, k, Facts::NAME_END));
-    if to <= from {
-        return pen;
-    }
-    if names.len() < to {
-        return pen;
-    }
-    let pen = page::put(sheet, pen, b" <bdi>");
-    let pen = page::escaped(sheet, pen, &names[from..to]);
-    page::put(sheet, pen, b"</bdi>")
-}
-
-// A task by its number, and its name.
-pub(crate) fn named(
-    sheet: &mut [u8; SHEET],
-    pen: Pen,
-    facts: &[u64; Facts::CELLS],
-    names: &[u8],
-    k: usize,
-) -> Pen {
-    let pen = page::fill(sheet, pen, b"task @", &[k as u64]);
-    name(sheet, pen, facts, names, k)
-}
+use std::cmp::Ordering;
+use std::io;
+use told::Code;
 
 // What follows of a task's code.
-fn meaning(sheet: &mut [u8; SHEET], pen: Pen, facts: &[u64; Facts::CELLS], k: usize) -> Pen {
-    let code = facts::fact(facts, k, Facts::CODE);
-    let bound = facts::fact(facts, k, Facts::BOUND);
-    let deadline = facts::fact(facts, k, Facts::DEADLINE);
-    if code == TaskCells::KEPT as u64 {
-        return page::fill(
-            sheet,
-            pen,
+fn meaning(sheet: &mut Sheet, task: &Fact) -> io::Result<()> {
+    let ticks = task.ticks().unwrap_or(0);
+    match task.code {
+        Code::Kept => sheet.fill(
             b"<span class='s'>$ to spare",
-            &[facts::less(deadline, bound)],
-        );
-    }
-    if code == TaskCells::LATE as u64 {
-        return page::fill(
-            sheet,
-            pen,
+            &[task.deadline.saturating_sub(ticks)],
+        ),
+        Code::Late => sheet.fill(
             b"<span class='s'>&#9650; $ above<span class='h'>, not shown to be in time</span>",
-            &[facts::less(bound, deadline)],
-        );
+            &[ticks.saturating_sub(task.deadline)],
+        ),
+        Code::Spent => sheet.put(b"<span class='s'>&#9650; not decided"),
+        Code::Overload | Code::Beyond => sheet.put(b"<span class='s'>&#9650; no bound"),
     }
-    if code == TaskCells::SPENT as u64 {
-        return page::put(sheet, pen, b"<span class='s'>&#9650; not decided");
-    }
-    page::put(sheet, pen, b"<span class='s'>&#9650; no bound")
 }
 
 // Why a task has no bound.
-fn why(sheet: &mut [u8; SHEET], pen: Pen, code: u64) -> Pen {
-    if code == TaskCells::OVERLOAD as u64 {
-        return page::put(
-            sheet,
-            pen,
+fn why(sheet: &mut Sheet, code: Code) -> io::Result<()> {
+    match code {
+        Code::Overload => sheet.put(
             b"it and the tasks that can delay it may want more than the major frame holds",
-        );
-    }
-    if code == TaskCells::BEYOND as u64 {
-        return page::fill(
-            sheet,
-            pen,
+        ),
+        Code::Beyond => sheet.fill(
             b"no busy time up to the horizon of $ ticks was found to end",
-            &[Table::HORIZON as u64],
-        );
+            &[u64::from(Table::HORIZON)],
+        ),
+        Code::Kept | Code::Late | Code::Spent => sheet.fill(
+            b"$ evaluations were not enough",
+            &[u64::from(input::BUDGET)],
+        ),
     }
-    page::fill(
-        sheet,
-        pen,
-        b"$ evaluations were not enough",
-        &[input::BUDGET as u64],
-    )
 }
 
 // What became of its bound since the table that this one is compared with.
-fn change(sheet: &mut [u8; SHEET], pen: Pen, facts: &[u64; Facts::CELLS], k: usize) -> Pen {
-    let bound = facts::fact(facts, k, Facts::BOUND);
-    let old = facts::fact(facts, k, Facts::OLD);
-    if old == bound {
-        return if bound == 0 {
-            page::put(sheet, pen, b"<span class='c'>had none either</span>")
-        } else {
-            page::put(sheet, pen, b"<span class='c'>as before</span>")
-        };
+fn change(sheet: &mut Sheet, old: Option<u64>, new: Option<u64>) -> io::Result<()> {
+    match (old, new) {
+        (None, None) => sheet.put(b"<span class='c'>had none either</span>"),
+        (None, Some(_)) => sheet.put(b"<span class='c'><b>had no bound</b></span>"),
+        (Some(old), None) => {
+            sheet.fill(b"<span class='c'><b>the bound was $</b></span>", &[old])
+        }
+        (Some(old), Some(new)) => match new.cmp(&old) {
+            Ordering::Equal => sheet.put(b"<span class='c'>as before</span>"),
+            Ordering::Greater => sheet.fill(
+                b"<span class='c'>was $, <b>&#9650; $ more</b></span>",
+                &[old, new.saturating_sub(old)],
+            ),
+            Ordering::Less => sheet.fill(
+                b"<span class='c'>was $, <b>&#9660; $ less</b></span>",
+                &[old, old.saturating_sub(new)],
+            ),
+        },
     }
-    if old == 0 {
-        return page::put(sheet, pen, b"<span class='c'><b>had no bound</b></span>");
-    }
-    if bound == 0 {
-        return page::fill(
-            sheet,
-            pen,
-            b"<span class='c'><b>the bound was $</b></span>",
-            &[old],
-        );
-    }
-    if old < bound {
-        return page::fill(
-            sheet,
-            pen,
-            b"<span class='c'>was $, <b>&#9650; $ more</b></span>",
-            &[old, facts::less(bound, old)],
-        );
-    }
-    page::fill(
-        sheet,
-        pen,
-        b"<span class='c'>was $, <b>&#9660; $ less</b></span>",
-        &[old, facts::less(old, bound)],
-    )
 }
 
 // The columns in front of the bar.
-fn columns(
-    sheet: &mut [u8; SHEET],
-    pen: Pen,
-    facts: &[u64; Facts::CELLS],
-    names: &[u8],
-    compared: bool,
-    k: usize,
-) -> Pen {
-    let bound = facts::fact(facts, k, Facts::BOUND);
-    let pen = page::put(sheet, pen, b"<span class='n'>");
-    let pen = named(sheet, pen, facts, names, k);
-    let pen = page::put(
-        sheet,
-        pen,
-        b"</span><span class='v'><span class='h'>bound </span>",
-    );
-    let pen = if bound == 0 {
-        page::put(sheet, pen, b"&#8211;")
-    } else {
-        page::fill(sheet, pen, b"$", &[bound])
-    };
-    let pen = page::fill(
-        sheet,
-        pen,
+fn columns(sheet: &mut Sheet, told: &Told, task: &Fact) -> io::Result<()> {
+    sheet.put(b"<span class='n'>")?;
+    told.named(sheet, task.number)?;
+    sheet.put(b"</span><span class='v'><span class='h'>bound </span>")?;
+    match task.ticks() {
+        Some(ticks) => sheet.fill(b"$", &[ticks])?,
+        None => sheet.put(b"&#8211;")?,
+    }
+    sheet.fill(
         b"</span><span class='v'><span class='h'>deadline </span>$</span>",
-        &[facts::fact(facts, k, Facts::DEADLINE)],
-    );
-    let pen = meaning(sheet, pen, facts, k);
-    let pen = if compared {
-        change(sheet, pen, facts, k)
-    } else {
-        pen
-    };
-    page::put(sheet, pen, b"</span>")
+        &[task.deadline],
+    )?;
+    meaning(sheet, task)?;
+    if told.compared {
+        change(sheet, task.old, task.ticks())?;
+    }
+    sheet.put(b"</span>")
 }
 
 // A task without a bound says why.
-fn unbounded(
-    sheet: &mut [u8; SHEET],
-    pen: Pen,
-    facts: &[u64; Facts::CELLS],
-    names: &[u8],
-    compared: bool,
-    k: usize,
-) -> Pen {
-    let pen = page::put(sheet, pen, b"'><div class='task none row'>");
-    let pen = columns(sheet, pen, facts, names, compared, k);
-    let pen = page::put(sheet, pen, b"<span class='w5'>");
-    let pen = why(sheet, pen, facts::fact(facts, k, Facts::CODE));
-    page::put(sheet, pen, b"</span></div></div>\n")
+fn unbounded(sheet: &mut Sheet, told: &Told, task: &Fact) -> io::Result<()> {
+    sheet.put(b"'><div class='task none row'>")?;
+    columns(sheet, told, task)?;
+    sheet.put(b"<span class='w5'>")?;
+    why(sheet, task.code)?;
+    sheet.put(b"</span></div></div>\n")
 }
 
-// The line of one task, and under it who pushed it: open where the task is not shown to be in time.
-fn task(
-    sheet: &mut [u8; SHEET],
-    pen: Pen,
-    table: &[u32],
-    facts: &[u64; Facts::CELLS],
-    accounts: &[u64; Facts::ACCOUNTS],
-    names: &[u8],
-    key: u64,
-    x: Scale,
-    compared: bool,
-    k: usize,
-) -> Pen {
-    let pen = page::fill(sheet, pen, b"<div id='a@t@", &[key, k as u64]);
-    if facts::fact(facts, k, Facts::BOUND) == 0 {
-        return unbounded(sheet, pen, facts, names, compared, k);
-    }
-    let pen = if facts::fact(facts, k, Facts::CODE) == TaskCells::KEPT as u64 {
-        page::put(sheet, pen, b"'><details class='task'><summary class='row'>")
+// Under the line of one with a bound stands who pushed it: open where the task is not shown to be in time.
+fn bounded(sheet: &mut Sheet, told: &Told, task: &Fact, bound: &Bound) -> io::Result<()> {
+    if task.is_open() {
+        sheet.put(b"'><details class='task open' open><summary class='row'>")?;
     } else {
-        page::put(
-            sheet,
-            pen,
-            b"'><details class='task open' open><summary class='row'>",
-        )
-    };
-    let pen = columns(sheet, pen, facts, names, compared, k);
-    let pen = bars::bar(sheet, pen, facts, accounts, x, k);
-    let pen = page::put(sheet, pen, b"</summary><div class='more'>\n");
-    let pen = busy::pushed(sheet, pen, table, facts, accounts, names, k);
-    page::put(sheet, pen, b"</div></details></div>\n")
+        sheet.put(b"'><details class='task'><summary class='row'>")?;
+    }
+    columns(sheet, told, task)?;
+    told.scale.bar(sheet, task, bound)?;
+    sheet.put(b"</summary><div class='more'>\n")?;
+    Pushed { told, task, bound }.show(sheet)?;
+    sheet.put(b"</div></details></div>\n")
+}
+
+fn line(sheet: &mut Sheet, told: &Told, task: &Fact) -> io::Result<()> {
+    sheet.fill(b"<div id='a@t@", &[told.key, task.number as u64])?;
+    match &task.bound {
+        Some(bound) => bounded(sheet, told, task, bound),
+        None => unbounded(sheet, told, task),
+    }
 }
 
 // All tasks in their order.
-pub(crate) fn every(
-    sheet: &mut [u8; SHEET],
-    pen: Pen,
-    table: &[u32],
-    facts: &[u64; Facts::CELLS],
-    accounts: &[u64; Facts::ACCOUNTS],
-    names: &[u8],
-    key: u64,
-    tasks: usize,
-    compared: bool,
-) -> Pen {
-    let x = bars::scale_of(facts, tasks);
-    let pen = page::put(
-        sheet,
-        pen,
+pub(crate) fn every(sheet: &mut Sheet, told: &Told) -> io::Result<()> {
+    sheet.put(
         b"<div class='row head' aria-hidden='true'><span class='n'>task</span><span class='v'>bound</span><span class='v'>deadline</span><span class='s'>to spare</span>",
-    );
-    let pen = bars::axis(sheet, pen, x);
-    let mut pen = page::put(sheet, pen, b"</div>\n");
-    let mut least: u64 = 0;
-    let mut from: usize = 0;
-    for n in 0..tasks {
-        let k = gather::next(facts, tasks, least, from);
-        if k < Table::TASKS {
-            pen = task(
-                sheet, pen, table, facts, accounts, names, key, x, compared, k,
-            );
-            least = facts::fact(facts, k, Facts::KEY);
-            from = k + 1;
+    )?;
+    told.scale.axis(sheet)?;
+    sheet.put(b"</div>\n")?;
+    for k in gather::order(told.tasks) {
+        if let Some(task) = told.tasks.get(k) {
+            line(sheet, told, task)?;
         }
     }
-    pen
+    Ok(())
 }

@@ -1,9 +1,0 @@
--- `report::bars::grid` ends: there are seven lines.
-use Prim.Native.Nat.{◌-◌, ◌≤◌}
-use Rattle.report.proofs.bars.grid.Given as goal
-
-abbrev pub invariant-loop : goal.invariant-loop
-invariant-loop l = l.counter ≤ 7
-
-abbrev pub decreases-loop : goal.decreases-loop
-decreases-loop l = 7 - l.counter

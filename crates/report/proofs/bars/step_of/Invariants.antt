@@ -1,9 +1,0 @@
--- `report::bars::step_of` keeps within the steps, and ends.
-use Prim.Native.Nat.{◌-◌, ◌≤◌}
-use Rattle.report.proofs.bars.step_of.Given as goal
-
-abbrev pub invariant-loop-i : goal.invariant-loop-i
-invariant-loop-i l = l.i ≤ 24
-
-abbrev pub decreases-loop-i : goal.decreases-loop-i
-decreases-loop-i l = 24 - l.i

@@ -1,9 +1,0 @@
--- `report::compared::tally_of` ends: each turn leaves fewer tasks.
-use Prim.Native.Nat.{◌-◌, ◌≤◌}
-use Rattle.report.proofs.compared.tally_of.Given as goal
-
-abbrev pub invariant-loop-k : goal.invariant-loop-k
-invariant-loop-k l = l.k ≤ l.tasks
-
-abbrev pub decreases-loop-k : goal.decreases-loop-k
-decreases-loop-k l = l.tasks - l.k

@@ -1,9 +1,0 @@
--- `report::refused::bits` ends: a byte has eight bits.
-use Prim.Native.Nat.{◌-◌, ◌≤◌}
-use Rattle.report.proofs.refused.bits.Given as goal
-
-abbrev pub invariant-loop-i : goal.invariant-loop-i
-invariant-loop-i l = l.i ≤ 8
-
-abbrev pub decreases-loop-i : goal.decreases-loop-i
-decreases-loop-i l = 8 - l.i
