@@ -4,6 +4,7 @@
 // cell, which holds 7 before the call.
 #![tactic(auto)]
 
+use refusals::Numbered;
 use std::io;
 use std::io::{Print, Read};
 

@@ -5,6 +5,7 @@
 
 ghost use Rattle.std.specs.Prelude.{◌≤◌};
 
+use refusals::Fault;
 use std::fmt::Write;
 use std::io::{Print, Read};
 use std::{fmt, io};
@@ -72,8 +73,8 @@ fn answer(
 ) {
     line.clear();
     let _ = match sumpcandle::cells(image, budget, cells) {
-        Filled::Done(tasks) => accepted(line, cells, tasks),
-        Filled::Refused(refusal, at) => writeln!(line, "refused {} {at}", refusal.number()),
+        Ok(Filled { tasks }) => accepted(line, cells, tasks),
+        Err(Fault { refusal, place }) => writeln!(line, "refused {} {place}", refusal.number()),
     };
     let _ = rt.write_all(line.as_slice());
 }

@@ -5,6 +5,7 @@
 
 ghost use Rattle.std.specs.Prelude.{◌≤◌, ◌<◌, length};
 
+use refusals::Numbered;
 use row::Table;
 use std::io;
 use std::io::{Stdout, Write};
@@ -56,7 +57,7 @@ fn show(out: &mut Stdout, image: &[u8]) -> io::Result<()> {
     let reading = image::read(image);
     let answer = reading.answer;
     write!(out, "{} {}\n", answer.number(), answer.place())?;
-    if answer.is_accepted() {
+    if answer.is_ok() {
         show_table(out, &reading.table.cells)?;
     }
     Ok(())
