@@ -4,7 +4,7 @@
 ghost use Rattle.std.specs.Prelude.{◌≡◌, ◌+◌, ◌^◌, ◌<◌};
 
 use output::{Begun, Grouped, Out, Verdict, Words};
-use parts::{Made, Part, Parts};
+use parts::{Part, Parts};
 use row::Table;
 use std::io;
 use sumpcandle::{Filled, TaskCells};
@@ -175,7 +175,7 @@ fn part(out: &mut Out, ticks: u64, text: &str) -> io::Result<()> {
 
 // What another transaction charges, if it has rivals.
 fn other(out: &mut Out, image: &[u8], k: u32, i: u32, completion: u32) -> io::Result<()> {
-    let Part::Charged(charge) = sumpcandle::charge(image, k, i, false, completion) else {
+    let Ok(Part::Charged(charge)) = sumpcandle::charge(image, k, i, false, completion) else {
         return Ok(());
     };
     out.grouped(charge.ticks, 41)?;
@@ -215,7 +215,7 @@ fn made(out: &mut Out, told: &Told, line: Line) -> io::Result<()> {
     let Ok(k) = u32::try_from(line.k) else {
         return Ok(());
     };
-    let Made::Of(of) = sumpcandle::parts(told.image, k, input::BUDGET) else {
+    let Ok(Some(of)) = sumpcandle::parts(told.image, k, input::BUDGET) else {
         return Ok(());
     };
     write!(
@@ -318,11 +318,11 @@ fn explain(out: &mut Out, words: Words, image: &[u8]) -> io::Result<Verdict> {
     let table = image::read(image).table;
     let mut cells = [0u32; sumpcandle::CELLS];
     match sumpcandle::cells(image, input::BUDGET, &mut cells) {
-        Filled::Refused(refusal, at) => {
-            output::refused(out, image, refusal, at)?;
+        Err(fault) => {
+            output::refused(out, image, fault)?;
             Ok(Verdict::Refused)
         }
-        Filled::Done(tasks) => {
+        Ok(Filled { tasks }) => {
             let told = Told {
                 image,
                 table: &table.cells,

@@ -3,6 +3,7 @@
 #![tactic(auto)]
 
 use output::{Begun, Out, Verdict, Words};
+use refusals::Fault;
 use std::io;
 use sumpcandle::{Filled, TaskCells};
 
@@ -25,12 +26,12 @@ fn lines(out: &mut Out, cells: &[u32], tasks: usize) -> io::Result<()> {
 fn list(out: &mut Out, image: &[u8]) -> io::Result<Verdict> {
     let mut cells = [0u32; sumpcandle::CELLS];
     match sumpcandle::cells(image, input::BUDGET, &mut cells) {
-        Filled::Done(tasks) => {
+        Ok(Filled { tasks }) => {
             lines(out, &cells, tasks)?;
             Ok(Verdict::accepted(TaskCells::all_kept(&cells, tasks)))
         }
-        Filled::Refused(refusal, at) => {
-            write!(out, "refused {} {at}\n", refusal.number())?;
+        Err(Fault { refusal, place }) => {
+            write!(out, "refused {} {place}\n", refusal.number())?;
             Ok(Verdict::Refused)
         }
     }

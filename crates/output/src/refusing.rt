@@ -1,10 +1,10 @@
 // A refusal in words: its number, its reason, and its place by byte, bit and field.
 ghost use Rattle.page.specs.Handle.{Writes};
 
-use image::{Due, due_at};
+use image::due_at;
 use page::{Grouped, Out};
 use places::Field;
-use refusals::Refusal;
+use refusals::{Fault, Refusal};
 use std::io;
 
 fn words(refusal: Refusal) -> &'static str {
@@ -29,21 +29,21 @@ fn words(refusal: Refusal) -> &'static str {
 }
 
 // The reason; of a deadline that nobody could keep with its numbers, where some field of a task holds that bit position.
-fn reason(out: &mut Out, image: &[u8], refusal: Refusal, at: usize) -> io::Result<()>
+fn reason(out: &mut Out, image: &[u8], fault: Fault) -> io::Result<()>
     ensures { Writes out.old out.new result }
 {
-    if let Refusal::DeadlineShort = refusal {
-        if let Due::Of(offset, time, deadline) = due_at(image, at) {
+    if fault.refusal == Refusal::DeadlineShort {
+        if let Some(due) = due_at(image, fault.place) {
             return write!(
                 out,
                 "a deadline of {}, below offset {} plus greatest time {}",
-                Grouped(u64::from(deadline)),
-                Grouped(u64::from(offset)),
-                Grouped(u64::from(time)),
+                Grouped(u64::from(due.deadline)),
+                Grouped(u64::from(due.offset)),
+                Grouped(u64::from(due.time)),
             );
         }
     }
-    out.say(words(refusal).as_bytes())
+    out.say(words(fault.refusal).as_bytes())
 }
 
 fn named(out: &mut Out, at: Field, refusal: Refusal) -> io::Result<()>
@@ -75,12 +75,13 @@ fn named(out: &mut Out, at: Field, refusal: Refusal) -> io::Result<()>
 }
 
 // The line for an image that is refused.
-pub fn refused(out: &mut Out, image: &[u8], refusal: Refusal, at: usize) -> io::Result<()>
+pub fn refused(out: &mut Out, image: &[u8], fault: Fault) -> io::Result<()>
     ensures { Writes out.old out.new result }
 {
-    write!(out, "image refused ({}): ", refusal.number())?;
-    reason(out, image, refusal, at)?;
+    let at = fault.place;
+    write!(out, "image refused ({}): ", fault.refusal.number())?;
+    reason(out, image, fault)?;
     write!(out, ", at byte {}, bit {}: ", at / 8, at % 8)?;
-    named(out, places::field_at(image, at), refusal)?;
+    named(out, places::field_at(image, at), fault.refusal)?;
     out.say(b"\n")
 }

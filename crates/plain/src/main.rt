@@ -4,9 +4,9 @@
 
 ghost use Rattle.std.specs.Prelude.{◌≡◌, ◌+◌, ◌^◌, ◌<◌};
 
-use beside::Response;
+use beside::Unanswered;
 use output::{Begun, Grouped, Out, Verdict, Words};
-use refusals::{PlainRefusal, Refusal};
+use refusals::{Fault, PlainRefusal};
 use row::Table;
 use std::io;
 use sumpcandle::{Filled, TaskCells};
@@ -17,8 +17,7 @@ use told::Code;
 struct Line {
     k: usize,
     told: TaskCells,
-    // The plain response, or the number of why there is none.
-    response: Result<u32, u32>,
+    response: Result<u32, Unanswered>,
     period: u32,
     offset: u32,
 }
@@ -70,14 +69,10 @@ impl Summary {
     }
 }
 
-fn response(image: &[u8], k: usize) -> Result<u32, u32> {
-    let Ok(k) = u32::try_from(k) else {
-        return Err(Refusal::NoTask.number());
-    };
-    match sumpcandle::plain(image, k) {
-        Response::Of(ticks) => Ok(ticks),
-        Response::Refused(refusal, _) => Err(refusal.number()),
-        Response::Unfit(refusal) => Err(refusal.number()),
+fn number(why: Unanswered) -> u32 {
+    match why {
+        Unanswered::Refused(fault) => fault.refusal.number(),
+        Unanswered::Unfit(refusal) => refusal.number(),
     }
 }
 
@@ -85,7 +80,7 @@ fn line_of(image: &[u8], table: &[u32], cells: &[u32], k: usize) -> Option<Line>
     Some(Line {
         k,
         told: TaskCells::of(cells, k)?,
-        response: response(image, k),
+        response: sumpcandle::plain(image, u32::try_from(k).ok()?),
         period: Table::period(table, Table::owner(table, k) as usize),
         offset: Table::offset(table, k),
     })
@@ -95,7 +90,7 @@ fn line_of(image: &[u8], table: &[u32], cells: &[u32], k: usize) -> Option<Line>
 fn listed(out: &mut Out, line: Line) -> io::Result<()> {
     let (number, response) = match line.response {
         Ok(response) => (0, response),
-        Err(number) => (number, 0),
+        Err(why) => (number(why), 0),
     };
     let TaskCells { code, bound, .. } = line.told;
     write!(out, "{} {code} {bound} {number} {response}\n", line.k)
@@ -243,17 +238,11 @@ fn refused(out: &mut Out, number: u32, at: usize) -> io::Result<()> {
     write!(out, "refused {number} {at}\n")
 }
 
-fn image_refused(
-    out: &mut Out,
-    words: Words,
-    image: &[u8],
-    refusal: Refusal,
-    at: usize,
-) -> io::Result<Verdict> {
+fn image_refused(out: &mut Out, words: Words, image: &[u8], fault: Fault) -> io::Result<Verdict> {
     if words.explain {
-        output::refused(out, image, refusal, at)?;
+        output::refused(out, image, fault)?;
     } else {
-        refused(out, refusal.number(), at)?;
+        refused(out, fault.refusal.number(), fault.place)?;
     }
     Ok(Verdict::Refused)
 }
@@ -270,8 +259,8 @@ fn table_refused(out: &mut Out, words: Words, table: &[u32]) -> io::Result<Verdi
 fn accepted(out: &mut Out, words: Words, image: &[u8], table: &[u32]) -> io::Result<Verdict> {
     let mut cells = [0u32; sumpcandle::CELLS];
     match sumpcandle::cells(image, input::BUDGET, &mut cells) {
-        Filled::Refused(refusal, at) => image_refused(out, words, image, refusal, at),
-        Filled::Done(tasks) => {
+        Err(fault) => image_refused(out, words, image, fault),
+        Ok(Filled { tasks }) => {
             lines(out, words.explain, image, table, &cells, tasks)?;
             Ok(Verdict::accepted(TaskCells::all_kept(&cells, tasks)))
         }
@@ -282,8 +271,8 @@ fn accepted(out: &mut Out, words: Words, image: &[u8], table: &[u32]) -> io::Res
 fn plain(out: &mut Out, words: Words, image: &[u8]) -> io::Result<Verdict> {
     let table = image::read(image).table;
     match sumpcandle::plain(image, 0) {
-        Response::Refused(refusal, at) => image_refused(out, words, image, refusal, at),
-        Response::Unfit(PlainRefusal::NotSingle) => table_refused(out, words, &table.cells),
+        Err(Unanswered::Refused(fault)) => image_refused(out, words, image, fault),
+        Err(Unanswered::Unfit(PlainRefusal::NotSingle)) => table_refused(out, words, &table.cells),
         _ => accepted(out, words, image, &table.cells),
     }
 }

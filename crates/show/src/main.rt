@@ -2,7 +2,6 @@
 #![tactic(auto)]
 
 use output::{Begun, Out, Verdict, Words};
-use refusals::Answer;
 use row::Table;
 use std::io;
 
@@ -45,12 +44,12 @@ fn lines(out: &mut Out, row: &[u32], aligned: bool) -> io::Result<()> {
 fn show(out: &mut Out, words: Words, image: &[u8]) -> io::Result<Verdict> {
     let reading = image::read(image);
     match reading.answer {
-        Answer::Accepted => {
+        Ok(()) => {
             lines(out, &reading.table.cells, words.aligned)?;
             Ok(Verdict::Kept)
         }
-        Answer::Refused(refusal, at) => {
-            output::refused(out, image, refusal, at)?;
+        Err(fault) => {
+            output::refused(out, image, fault)?;
             Ok(Verdict::Refused)
         }
     }

@@ -17,6 +17,7 @@ pub use answers::{account, charge, parts};
 pub use asked::part;
 pub use beside::{approximate, plain};
 use parts::{Charge, Parts};
+use refusals::Fault;
 use row::Table;
 pub use told::{Filled, TaskCells};
 
@@ -24,7 +25,7 @@ pub use told::{Filled, TaskCells};
 pub const CELLS: usize = TaskCells::COUNT * Table::TASKS;
 
 // The cells of every task of an image, under a budget that holds for each task afresh.
-pub fn cells(image: &[u8], budget: u32, cells: &mut [u32]) -> Filled
+pub fn cells(image: &[u8], budget: u32, cells: &mut [u32]) -> Result<Filled, Fault>
     ensures { Fills image.now budget cells.old cells.new result }
 {
     answers::cells(image, budget, cells)
@@ -61,7 +62,7 @@ pub fn sumpcandle_write(cells: &[u32; Table::CELLS], buffer: &mut [u8]) -> u64
 }
 
 // For the emulator's C host, who pushed one task: what its bound is made of, into the cells. The result is the place of the answer's case,
-// `Made::GIVEN` or `Made::NO_BOUND`; for 1 to 11, 13 and 14 that number × 2^32 + its place. But where they are given, the cells stay as they
+// `Parts::GIVEN` or `Parts::NO_BOUND`; for 1 to 11, 13 and 14 that number × 2^32 + its place. But where they are given, the cells stay as they
 // were.
 pub fn sumpcandle_parts(
     image: &[u8],

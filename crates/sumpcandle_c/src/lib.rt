@@ -47,7 +47,7 @@ pub extern "C" fn sumpcandle_write(cells: &[u32; Table::CELLS], buffer: &mut [u8
 }
 
 // For the emulator's C host, who pushed one task: what its bound is made of, into the cells. The result is the place of the answer's case,
-// `Made::GIVEN` or `Made::NO_BOUND`; for 1 to 11, 13 and 14 that number × 2^32 + its place. But where they are given, the cells stay as they
+// `Parts::GIVEN` or `Parts::NO_BOUND`; for 1 to 11, 13 and 14 that number × 2^32 + its place. But where they are given, the cells stay as they
 // were.
 #[unsafe(no_mangle)]
 pub extern "C" fn sumpcandle_parts(
