@@ -4,85 +4,57 @@
 // cell, which holds 7 before the call.
 #![tactic(auto)]
 
-ghost use Rattle.std.specs.Prelude.{◌<◌};
-
+use std::io;
 use std::io::{Print, Read};
+
+// More bytes than two say.
+const IMAGE: usize = 65_536;
 
 // Some more than any table needs.
 const MOST: usize = sumpcandle::CELLS + 8;
 
-// The number in two bytes.
-fn two(high: u8, low: u8) -> u32
-    ensures { result < 65536 }
-{
-    (high as u32) * 256 + low as u32
-}
-
-fn number(rt: &HostRuntime, x: u64) {
-    let _ = rt.print(x);
-    let _ = rt.write_all(b" ");
-}
-
-fn wide(x: u32) -> u64 {
-    x as u64
-}
-
-fn show(rt: &HostRuntime, cells: &[u32]) {
-    let mut k: usize = 0;
-    while k < cells.len() {
-        number(rt, wide(cells[k]));
-        k += 1;
+fn show(rt: &HostRuntime, cells: &[u32]) -> io::Result<()> {
+    for cell in cells {
+        print!(rt; "{cell} ")?;
     }
-    let _ = rt.write_all(b"\n");
+    println!(rt)
 }
 
-fn told(rt: &HostRuntime, image: &[u8], budget: u32, cells: &mut [u32]) {
+fn told(rt: &HostRuntime, image: &[u8], budget: u32, cells: &mut [u32]) -> io::Result<()> {
     let answer = sumpcandle::cells(image, budget, cells);
-    number(rt, wide(answer.number()));
-    number(rt, answer.place() as u64);
-    number(rt, sumpcandle::sumpcandle_response(image, 0, budget));
-    show(rt, cells);
+    let response = sumpcandle::sumpcandle_response(image, 0, budget);
+    print!(rt; "{} {} {response} ", answer.number(), answer.place())?;
+    show(rt, cells)
 }
 
-fn with_cells(rt: &HostRuntime, bytes: &[u8], n: usize, count: usize, budget: u32) {
-    let mut cells = [7u32; MOST];
-    if bytes.len() < n {
-        return;
-    }
-    if MOST < count {
-        return;
-    }
-    told(rt, &bytes[..n], budget, &mut cells[..count]);
+// A number of two bytes.
+fn two(from: &mut impl Read) -> io::Result<u16> {
+    let mut bytes = [0u8; 2];
+    from.read_exact(&mut bytes)?;
+    Ok(u16::from_be_bytes(bytes))
 }
 
-// One case; false at the end of the input.
-fn case(rt: &HostRuntime, bytes: &mut [u8]) -> bool {
+// One case; an error at the end of the input.
+fn case(rt: &HostRuntime, image: &mut [u8; IMAGE]) -> io::Result<()> {
     let mut from = rt.stdin();
-    let mut head = [0u8; 8];
-    if from.read_exact(&mut head).is_err() {
-        return false;
+    let mut budget = [0u8; 4];
+    from.read_exact(&mut budget)?;
+    let count = usize::from(two(&mut from)?);
+    let length = usize::from(two(&mut from)?);
+    let image = &mut image[..length];
+    from.read_exact(image)?;
+    let mut cells = [7u32; MOST];
+    if count <= MOST {
+        told(rt, image, u32::from_be_bytes(budget), &mut cells[..count])?;
     }
-    let budget = two(head[0], head[1]) * 65536 + two(head[2], head[3]);
-    let count = two(head[4], head[5]) as usize;
-    let length = two(head[6], head[7]) as usize;
-    if bytes.len() < length {
-        return false;
-    }
-    if from.read_exact(&mut bytes[..length]).is_err() {
-        return false;
-    }
-    with_cells(rt, bytes, length, count, budget);
-    true
+    Ok(())
 }
 
 fn main(rt: HostRuntime) {
-    let mut bytes = [0u8; 65_536];
-    let mut left: u32 = 65_536;
-    while 0 < left {
-        if case(&rt, &mut bytes) {
-            left -= 1;
-        } else {
-            left = 0;
+    let mut image = [0u8; IMAGE];
+    for _ in 0..65_536 {
+        if case(&rt, &mut image).is_err() {
+            break;
         }
     }
 }

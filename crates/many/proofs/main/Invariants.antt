@@ -1,5 +1,0 @@
--- `many::main` ends: each case leaves one fewer to take, and the end of the input leaves none.
-use Rattle.many.proofs.main.Given as goal
-
-abbrev pub decreases-loop-left : goal.decreases-loop-left
-decreases-loop-left l = l.left
