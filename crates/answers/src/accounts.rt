@@ -29,8 +29,8 @@ fn share(work: &[u32; Work::CELLS], s: Subject, m: usize, c: usize, x: Split, j:
     let held = charges::held_of(work, s.u, c, j).0;
     let cells = Weighed { work, s };
     let weight = cells.weight(s.u, m, j);
-    let rest = charges::rest_of(x, false, phase, weight);
-    let jobs = held + charges::whole_periods(false, x.periods);
+    let rest = x.rest_of(false, phase, weight);
+    let jobs = held + x.whole_periods(false);
     Share {
         phase,
         held: held as u32,

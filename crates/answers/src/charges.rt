@@ -89,33 +89,36 @@ pub(crate) fn split_of(work: &[u32; Work::CELLS], i: usize, t: Ticks) -> Split
     }
 }
 
-// What a task of that phase and weight charges beside the whole periods.
-pub(crate) fn rest_of(x: Split, whole: bool, phase: u32, weight: u32) -> u32
-    requires period_bound { x.period < 2 ^ 24 }
-    requires rest_lt_period { x.rest < x.period }
-    requires phase_lt_period { phase < x.period }
-    requires weight_bound { weight < 2 ^ 24 }
-    ensures { result ≡ rest_of whole x.periods x.period x.rest phase weight }
-{
-    if whole {
-        return if phase < x.rest { weight } else { 0 };
+impl Split {
+    // What a task of that phase and weight charges beside the whole periods.
+    pub(crate) fn rest_of(self, whole: bool, phase: u32, weight: u32) -> u32
+        requires period_bound { self.period < 2 ^ 24 }
+        requires rest_lt_period { self.rest < self.period }
+        requires phase_lt_period { phase < self.period }
+        requires weight_bound { weight < 2 ^ 24 }
+        ensures { result ≡ rest_of whole self.periods self.period self.rest phase weight }
+    {
+        if whole {
+            return if phase < self.rest { weight } else { 0 };
+        }
+        if self.periods == 0 {
+            return self.rest.saturating_sub(phase).min(weight);
+        }
+        if phase <= self.rest {
+            return weight + (self.rest - phase).min(weight);
+        }
+        (self.rest + self.period - phase).min(weight)
     }
-    if x.periods == 0 {
-        return x.rest.saturating_sub(phase).min(weight);
-    }
-    if phase <= x.rest {
-        return weight + (x.rest - phase).min(weight);
-    }
-    (x.rest + x.period - phase).min(weight)
-}
 
-pub(crate) fn whole_periods(whole: bool, periods: u64) -> u64
-    ensures { result ≡ whole_periods whole periods }
-{
-    if whole {
-        return periods;
+    // The periods that are charged whole: of what jobs impose the last is part of the rest.
+    pub(crate) fn whole_periods(self, whole: bool) -> u64
+        ensures { result ≡ whole_periods whole self.periods }
+    {
+        if whole {
+            return self.periods;
+        }
+        self.periods.saturating_sub(1)
     }
-    periods.saturating_sub(1)
 }
 
 // Candidate c of transaction i in mode m, at a t that x splits, by the subject's work cells.
@@ -146,7 +149,9 @@ impl Setting<'_> {
         let weights = Work::WEIGHTS + Table::TASKS * self.m + self.x.first;
         let mut sum = 0;
         for j in 0..self.x.count {
-            sum += rest_of(self.x, whole, self.work[phases + j], self.work[weights + j]);
+            sum += self
+                .x
+                .rest_of(whole, self.work[phases + j], self.work[weights + j]);
         }
         sum
     }
@@ -174,7 +179,7 @@ impl Setting<'_> {
     pub(crate) fn charge(&self, whole: bool) -> Ticks
         ensures { result.0 ≡ charge (later_of whole) self.now.tab self.now.u self.now.a self.now.i self.now.m self.now.c (moment self.now.x) }
     {
-        let passed = whole_periods(whole, self.x.periods) * self.mode_weight();
+        let passed = self.x.whole_periods(whole) * self.mode_weight();
         let rest = u64::from(self.rests(whole));
         Ticks(self.held_back() + passed + rest)
     }

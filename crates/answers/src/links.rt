@@ -6,7 +6,6 @@ ghost use Rattle.row.specs.Row.{table_of};
 ghost use Rattle.table.specs.Limits.{modes_most};
 ghost use Rattle.table.specs.Number.{in_all};
 ghost use Rattle.table.specs.Table.{IsTask, transactions, modes};
-ghost use Rattle.analysis.specs.Choice.{most};
 ghost use Rattle.charge.specs.Links.{Below, Dropped, Spare, Idle, NextSetting};
 ghost use Rattle.answers.specs.Parts.{SameTo, LinkedFrom, OthersFrom};
 ghost use Rattle.charge.specs.Weight.{weight, mode_weight};
@@ -72,26 +71,17 @@ impl Weighed<'_> {
         self.weight(i, m, c) != 0 && !self.is_dropped(i, m)
     }
 
-    // The greatest weight of a mode of transaction i: 0 where it has no rival.
-    fn most_mode_weight(&self, i: usize) -> u64
-        requires { i < transactions self.now.tab }
-        ensures { result ≡ most (modes self.now.tab i) (mode_weight self.now.tab self.now.u self.now.a i) }
-    {
-        let count = reads::modes(self.work, i);
-        let mut best: u64 = 0;
-        for m in 0..count {
-            best = best.max(self.mode_weight(i, m));
-        }
-        best
-    }
-
     // Whether transaction i charges nothing beside that of the subject.
     fn is_idle(&self, i: usize) -> bool
         requires { i < transactions self.now.tab }
         ensures idle { result ≡ true → Idle self.now.tab self.now.u self.now.a i }
         ensures not_i { result ≡ false → ¬ (i ≡ self.now.u) }
     {
-        i == self.s.u || self.most_mode_weight(i) == 0
+        if i == self.s.u {
+            return true;
+        }
+        let count = reads::modes(self.work, i);
+        (0..count).all(|m| self.mode_weight(i, m) == 0)
     }
 }
 

@@ -10,18 +10,6 @@ ghost use Rattle.answers.specs.Lent.{Owner};
 use super::layout::Work;
 use row::Table;
 
-pub(crate) fn wide(x: u32) -> u64
-    ensures { result ≡ x }
-{
-    x as u64
-}
-
-pub(crate) fn index(x: u32) -> usize
-    ensures { result ≡ x }
-{
-    x as usize
-}
-
 pub(crate) fn frame(work: &[u32; Work::CELLS]) -> u64
     ensures { result ≡ (table_of work.now).frame }
 {

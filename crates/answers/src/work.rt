@@ -46,7 +46,7 @@ pub(crate) fn task(work: &[u32; Work::CELLS], k: usize) -> Subject
     }
 }
 
-// Phase of task j when candidate c sets the critical instant.
+// Phase of task j when candidate c sets the critical instant, worked out of the row; `charges` reads it from its cell.
 #[tactic(auto, using(crate::proofs::Rooms::ranges, crate::proofs::Rooms::fields), unfolding(analysis::specs::Charge::phase_of))]
 fn phase_of(work: &[u32; Work::CELLS], i: usize, c: usize, j: usize) -> u32
     requires row_of_table { RowOfTable work.now }
@@ -63,7 +63,7 @@ fn phase_of(work: &[u32; Work::CELLS], i: usize, c: usize, j: usize) -> u32
     )
 }
 
-// Jobs of task j held back to the instant.
+// Jobs of task j held back to the instant, likewise.
 #[tactic(auto, using(crate::proofs::Rooms::ranges, crate::proofs::Rooms::fields), unfolding(analysis::specs::Charge::held_of, periods::specs::Phase::held))]
 fn held_of(work: &[u32; Work::CELLS], i: usize, c: usize, j: usize) -> u32
     requires row_of_table { RowOfTable work.now }

@@ -2,7 +2,7 @@
 use mathlib.Core.Path.{refl}
 use native.Mathlib.Omega.{arith}
 use Rattle.charge.specs.Split.{whole_periods}
-use Rattle.answers.proofs.charges.whole_periods.Goals as goal
+use Rattle.answers.proofs.charges.Split.whole_periods.Goals as goal
 
 pub returns-then-whole : goal.returns-then-whole
 unfolding whole_periods
