@@ -55,17 +55,15 @@ impl Old<'_> {
     // Its bounds beside those of this one.
     pub(crate) fn compare(self, table: &[u32], facts: &mut [Fact]) -> Outcome {
         let mut rows = [0u32; sumpcandle::CELLS];
-        match sumpcandle::cells(self.image, input::BUDGET, &mut rows) {
-            Filled::Refused(_, _) => Outcome::Refused,
-            Filled::Done(_) => {
-                let before = image::read(self.image).table;
-                if !gather::alike(table, &before.cells) {
-                    return Outcome::Unlike;
-                }
-                gather::old_bounds(&rows, facts);
-                Outcome::Compared
-            }
+        if sumpcandle::cells(self.image, input::BUDGET, &mut rows).is_err() {
+            return Outcome::Refused;
         }
+        let before = image::read(self.image).table;
+        if !gather::alike(table, &before.cells) {
+            return Outcome::Unlike;
+        }
+        gather::old_bounds(&rows, facts);
+        Outcome::Compared
     }
 
     // The sentence on it.

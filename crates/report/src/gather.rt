@@ -18,16 +18,11 @@ fn one(image: &[u8], table: &[u32], k: u32, fact: &mut Fact, rows: &mut [u32; su
     fact.deadline = u64::from(Table::deadline(table, fact.number));
     fact.owner = Table::owner(table, fact.number) as usize;
     let mut cells = [0u64; Account::CELLS];
-    match sumpcandle::account(image, k, input::BUDGET, &mut cells) {
-        Account::Refused(_, _) => {}
-        Account::Unbounded(c) => {
-            c.put(rows, fact.number);
-            put_cells(fact, c);
-        }
-        Account::Bounded(c, parts) => {
-            c.put(rows, fact.number);
-            put_cells(fact, c);
-            fact.bound = Some(Bound::new(c, parts, &cells));
+    if let Ok(account) = sumpcandle::account(image, k, input::BUDGET, &mut cells) {
+        account.cells.put(rows, fact.number);
+        put_cells(fact, account.cells);
+        if let Some(parts) = account.parts {
+            fact.bound = Some(Bound::new(account.cells, parts, &cells));
         }
     }
 }

@@ -20,7 +20,7 @@ use compared::{Old, Outcome};
 use facts::{Fact, Title, Told};
 use output::{Out, Verdict, Words};
 use page::Sheet;
-use refusals::{Answer, Refusal};
+use refusals::Fault;
 use request::{Asked, Piece};
 use row::Table;
 use std::fs::File;
@@ -158,15 +158,15 @@ impl<'a> Taken<'a> {
         }
     }
 
-    fn refused(&self, sheet: &mut Sheet, refusal: Refusal, at: usize) -> io::Result<Verdict> {
+    fn refused(&self, sheet: &mut Sheet, fault: Fault) -> io::Result<Verdict> {
         if self.asked.piece == Piece::Entry {
-            top::line_refused(sheet, self.title, refusal.number())?;
+            top::line_refused(sheet, self.title, fault.refusal.number())?;
         } else {
             top::begin(sheet, self.title.name)?;
         }
         top::heading(sheet, self.title)?;
         top::bytes(sheet, self.image)?;
-        refused::place(sheet, self.image, refusal, at)?;
+        refused::place(sheet, self.image, fault)?;
         self.ended(sheet)?;
         Ok(Verdict::Refused)
     }
@@ -174,8 +174,8 @@ impl<'a> Taken<'a> {
     fn told(&self, sheet: &mut Sheet) -> io::Result<Verdict> {
         let reading = image::read(self.image);
         match reading.answer {
-            Answer::Refused(refusal, at) => self.refused(sheet, refusal, at),
-            Answer::Accepted => self.accepted(sheet, &reading.table.cells),
+            Ok(()) => self.accepted(sheet, &reading.table.cells),
+            Err(fault) => self.refused(sheet, fault),
         }
     }
 }

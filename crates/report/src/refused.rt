@@ -1,6 +1,6 @@
 // The page of a table that is refused: its number and place in words, and the bytes around it with the bit marked.
 use page::Sheet;
-use refusals::Refusal;
+use refusals::Fault;
 use std::io;
 
 // How many bytes are shown, the one of the place in their middle.
@@ -56,17 +56,13 @@ fn bits(sheet: &mut Sheet, b: u8, at: usize) -> io::Result<()> {
 }
 
 // The refusal in words comes from the words of the desk, so what is laid so far is written first.
-pub(crate) fn place(
-    sheet: &mut Sheet,
-    image: &[u8],
-    refusal: Refusal,
-    at: usize,
-) -> io::Result<()> {
+pub(crate) fn place(sheet: &mut Sheet, image: &[u8], fault: Fault) -> io::Result<()> {
+    let at = fault.place;
     sheet.put(
         b"</dl>\n<p class='verdict open'>&#9650; The table is refused: nothing is known of its tasks.</p>\n<p>",
     )?;
     sheet.flush()?;
-    output::refused(&mut sheet.out, image, refusal, at)?;
+    output::refused(&mut sheet.out, image, fault)?;
     sheet.put(b"</p>\n")?;
     around(sheet, image, at / 8)?;
     match image.get(at / 8) {
