@@ -2,10 +2,10 @@
 use mathlib.Core.Path.{◌≡◌, refl, sym, ap, ap₂, ◌∙◌, subst}
 use mathlib.Core.List.{List}
 use Prim.Native.Nat.{ℕ, ◌+◌, ◌-◌, ◌*◌, ◌≤◌, ◌<◌}
-use native.Mathlib.Decide.{ℕ_discrete, dec_le}
+use native.Mathlib.Decide.{ℕ_discrete}
 use native.Mathlib.Omega.{arith}
 use lib.ListN.{length, get_or, take, set, length-set}
-use lib.Seq.{get_or-set_same, get_or-set_other, get_or-take, take-take, take-set-le, take_all}
+use lib.Seq.{get_or-set_same, get_or-set_other, get_or-take, take-take, take-set-le}
 use Rattle.table.specs.Table.{Table, IsTask, tasks}
 use Rattle.table.specs.Limits.{tasks_most, tasks_in_all}
 use Rattle.table.specs.Number.{before, in_all, number}
@@ -14,7 +14,6 @@ use Rattle.table.proofs.Number.{place, number_lt, number-unique}
 use Rattle.table.proofs.Ranges.{tasks-few}
 use Rattle.row.specs.Row.{first_cell, owner_cell, row_cells, table_of, head_cell, body_cell, RowOfTable}
 use Rattle.row.proofs.Fields.{read_first, read-owner}
-use Rattle.row.proofs.Rows.{row-size}
 use Rattle.row.proofs.Longer.{same-held, longer}
 use Rattle.analysis.specs.Charge.{phase_of, held_of}
 use Rattle.answers.specs.Work.{phases_cell, held_cell, weights_cell, work_cells, Lent}
@@ -60,15 +59,6 @@ same-cell {n} {old} {row} same p h e =
 -- stores behind it leave it, and its table
 pub same_row : {old row : List ℕ} → RowOfTable old → SameTo row_cells old row → RowOfTable row × (table_of row ≡ table_of old)
 same_row {old} {row} x same = (longer x same.front, same-held old row x.kept same.front)
-
--- all its cells are there
-pub row-long : {row : List ℕ} → RowOfTable row → row_cells ≤ length row
-row-long {row} x =
-    elim (dec_le row_cells (length row)) [
-      | yes l ↦ l
-      | no l ↦
-          absurd (omega (arith, row-size (table_of row) x.kept, ap length x.is_row, ap length (take_all row_cells row (omega arith))))
-    ]
 
 -- the transaction of task number k, and its place there
 pub found :

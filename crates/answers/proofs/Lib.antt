@@ -13,4 +13,6 @@ pub mod Linking
 pub mod Most
 pub mod Pushing
 pub mod Accounted
+pub mod Spans
+pub mod Rooms
 pub mod Choosing

@@ -3,13 +3,13 @@ use mathlib.Core.Path.{◌≡◌, ap, ◌∙◌, subst}
 use mathlib.Core.Bool.{Bool, true, false}
 use mathlib.Core.List.{List}
 use Prim.Native.Nat.{ℕ, ◌+◌, ◌*◌, ◌-◌, ◌/◌, ◌%◌, ◌^◌, ◌≤◌, ◌<◌}
-use native.Mathlib.Nat.{add-zero, add-mul, le_trans, mul-le-mul, mul-le-mul_right, le-mul_of_pos_right}
+use native.Mathlib.Nat.{add-mul, le_trans, mul-le-mul, mul-le-mul_right, le-mul_of_pos_right}
 use native.Mathlib.Omega.{arith}
 use lib.ListN.{get_or}
 use Rattle.row.specs.Row.{table_of}
 use Rattle.table.specs.Sum.{sum}
-use Rattle.table.specs.Limits.{transactions_most, modes_most, tasks_most, tasks_in_all}
-use Rattle.table.specs.Table.{Table, IsTask, transactions, period, modes, tasks}
+use Rattle.table.specs.Limits.{modes_most, tasks_most, tasks_in_all}
+use Rattle.table.specs.Table.{Table, IsTask, period, modes, tasks}
 use Rattle.table.specs.Number.{before, number}
 use Rattle.table.specs.Kept.{Kept}
 use Rattle.table.proofs.Sum.{sum-ext}
@@ -28,7 +28,7 @@ use Rattle.charge.specs.Weight.{weight, mode_weight, held_back}
 use Rattle.charge.specs.Links.{setting_number, NextSetting}
 use Rattle.charge.proofs.Weights.{weight-lt, mode-weight-le, held-back-le}
 use Rattle.charge.proofs.Split.{rest_le, rival-split, charge-split, charge-capped}
-use Rattle.charge.proofs.Along.{SettingAt, setting-at, end-le}
+use Rattle.charge.proofs.Along.{SettingAt, setting-at}
 use Rattle.answers.specs.Split.{moment, InWork, IsSplit, IsSetting}
 use Rattle.answers.specs.Work.{phases_cell, weights_cell, sums_cell, settings_cell, Lent, IsSubject}
 
@@ -104,30 +104,6 @@ module _ {tab : Table} (kept : Kept tab) {i : ℕ} {x : Split} (split : IsSplit 
 pub kept-of : {work : List ℕ} {tab : Table} → Lent work → table_of work ≡ tab → Kept tab
 kept-of lent e = subst Kept e lent.table.kept
 
--- a mode of a transaction by its number
-pub mode-room :
-    {work : List ℕ} {tab : Table} {i m : ℕ}
-    → Lent work
-    → table_of work ≡ tab
-    → i < transactions tab
-    → m < modes tab i
-    → modes_most * i + m < transactions_most * modes_most
-mode-room lent e h mode =
-    let kept = kept-of lent e in
-    omega (arith, kept.few_transactions, modes-few kept h)
-
--- a mode and a task by its number
-pub cell-room :
-    {work : List ℕ} {tab : Table} {i j m : ℕ}
-    → Lent work
-    → table_of work ≡ tab
-    → IsTask tab i j
-    → m < modes tab i
-    → (number (table_of work) i j < tasks_in_all) × (m < modes_most)
-cell-room {work} {tab} {i} {j} lent e is mode =
-    let kept = kept-of lent e in
-    rw e (omega (arith, number_lt tab is, kept.few_tasks), omega (arith, modes-few kept is.owner))
-
 -- the rest of task j by its cells
 abbrev pub rest_cell : List ℕ → Bool → Split → (phases weights j : ℕ) → ℕ
 rest_cell work whole x phases weights j =
@@ -196,10 +172,6 @@ module _ {work : List ℕ} (lent : Lent work) {i : ℕ} {x : Split} (split : IsS
       abbrev rest_in : ℕ → ℕ
       rest_in j = rest_cell work whole x (phases_cell + tasks_most * (x.first + c)) (weights_cell + tasks_in_all * m + x.first) j
 
-      -- the first task's cells are read without an offset
-      pub rest-first : rest_in 0 ≡ rest_of whole x.periods x.period x.rest (get_or work (phases_cell + tasks_most * (x.first + c)) 0) (get_or work (weights_cell + tasks_in_all * m + x.first) 0)
-      rest-first = rw (add-zero (phases_cell + tasks_most * (x.first + c)), add-zero (weights_cell + tasks_in_all * m + x.first))
-
       rest_in-rest_at : {j : ℕ} → IsTask (table_of work) i j → rest_in j ≡ rest_at whole (table_of work) s.u s.a i m c x.periods x.rest j
       unfolding rest_at
       rest_in-rest_at {j} t = rw (phase-at k t, weight-in t, split.period)
@@ -243,10 +215,6 @@ pub setting-in :
     → IsSetting work s i m c x × InWork x m c
 setting-in lent subject is mode split =
     (record { lent = lent; subject = subject; is_task = is; mode = mode; split = split }, in-work lent split is mode)
-
--- the settings of a transaction are within the cells
-pub split-room : {work : List ℕ} {i : ℕ} {x : Split} → Lent work → IsSplit (table_of work) i x → x.first + x.count ≤ tasks_in_all
-split-room lent split = omega (arith, split.first, split.count, end-le split.owner lent.table.kept)
 
 -- the setting of a number
 pub at-setting :

@@ -1,6 +1,7 @@
 -- What a turn of the walk and its chains are, in the code's own types.
 use Rattle.std.specs.Prelude.{◌≡◌, ℤ, ℕ, ◌-◌, ◌≤◌, Result, Ok, Err}
-use Rattle.table.specs.Table.{Table, period, tasks, offset, blocking, time}
+use Rattle.table.specs.Kept.{Kept}
+use Rattle.table.specs.Table.{Table, IsTask, period, tasks, offset, blocking, time}
 use Rattle.table.specs.Limits.{horizon}
 use Rattle.periods.specs.Charge.{imposed}
 use Rattle.analysis.specs.Charge.{phase_of}
@@ -20,8 +21,10 @@ use Rattle.answers.specs.declared.walk.Source.{Source}
 use Rattle.answers.specs.declared.walk.Best.{Best}
 use Rattle.answers.specs.declared.walk.Walk.{Walk}
 
--- x holds the numbers of that mode and that candidate
+-- x holds the numbers of that mode and that candidate, of a task of a kept table
 pub record IsInstant (tab : Table) (u a m c : ℕ) (x : Instant) : Type 0 where
+  pub kept : Kept tab
+  pub is_task : IsTask tab u a
   pub setting : Setting tab u a m c
   pub mode : x.mode ≡ m
   pub candidate : x.candidate ≡ c

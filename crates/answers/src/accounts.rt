@@ -10,10 +10,11 @@ ghost use Rattle.answers.specs.Work.{work_cells, Lent, IsSubject};
 
 use super::charges::{Split, Subject};
 use super::layout::Work;
+use super::lent::Weighed;
 use super::pushed::Bounded;
 use super::quantity::Ticks;
 use super::walk::Source;
-use super::{answers, charges, links, pushed, reads, work};
+use super::{answers, charges, pushed, reads, work};
 use account::{Account, Share};
 use refusals::Fault;
 use row::Table;
@@ -26,9 +27,10 @@ fn share(work: &[u32; Work::CELLS], s: Subject, m: usize, c: usize, x: Split, j:
 {
     let phase = charges::phase_of(work, s.u, c, j).0 as u32;
     let held = charges::held_of(work, s.u, c, j).0;
-    let weight = links::weight(work, s, s.u, m, j);
-    let rest = charges::rest_of(x, false, phase, weight);
-    let jobs = held + charges::whole_periods(false, x.periods);
+    let cells = Weighed { work, s };
+    let weight = cells.weight(s.u, m, j);
+    let rest = x.rest_of(false, phase, weight);
+    let jobs = held + x.whole_periods(false);
     Share {
         phase,
         held: held as u32,

@@ -16,9 +16,10 @@ ghost use Rattle.parts.specs.Parts.{OfTask};
 use super::chains::Stopped;
 use super::charges::Subject;
 use super::layout::Work;
+use super::lent::Linked;
 use super::quantity::Jobs;
 use super::walk::{Source, Walk};
-use super::{links, overload, reads, work};
+use super::{links, reads, work};
 use refusals::{Fault, Refusal};
 use row::Table;
 use told::{Named, TaskAnswer, TaskCells};
@@ -58,10 +59,11 @@ pub(crate) fn answer(work: &[u32; Work::CELLS], s: Subject, budget: u32) -> Task
     requires subject { IsSubject work.now s }
     ensures { meant result ≡ answer imposed (table_of work.now) s.u s.a budget }
 {
-    if overload::is_overload(work, s) {
+    let cells = Linked { work, s };
+    if cells.is_overload() {
         return TaskAnswer::Overload;
     }
-    match Walk::new().modes(work, s, budget) {
+    match Walk::new().modes(&cells, budget) {
         Ok(Walk { used, best }) => {
             TaskAnswer::Bound(best.response.0 as u32, used, named(work, s.u, best.source))
         }

@@ -30,6 +30,7 @@ pub(crate) struct Subject {
 }
 
 // Where task j of transaction i stands among the phases and the held-back jobs, when candidate c sets the instant.
+#[tactic(auto, using(crate::proofs::Rooms::rooms))]
 fn place(work: &[u32; Work::CELLS], i: usize, c: usize, j: usize) -> usize
     requires row_of_table { RowOfTable work.now }
     requires task { IsTask (table_of work.now) i c }
@@ -88,33 +89,36 @@ pub(crate) fn split_of(work: &[u32; Work::CELLS], i: usize, t: Ticks) -> Split
     }
 }
 
-// What a task of that phase and weight charges beside the whole periods.
-pub(crate) fn rest_of(x: Split, whole: bool, phase: u32, weight: u32) -> u32
-    requires period_bound { x.period < 2 ^ 24 }
-    requires rest_lt_period { x.rest < x.period }
-    requires phase_lt_period { phase < x.period }
-    requires weight_bound { weight < 2 ^ 24 }
-    ensures { result ≡ rest_of whole x.periods x.period x.rest phase weight }
-{
-    if whole {
-        return if phase < x.rest { weight } else { 0 };
+impl Split {
+    // What a task of that phase and weight charges beside the whole periods.
+    pub(crate) fn rest_of(self, whole: bool, phase: u32, weight: u32) -> u32
+        requires period_bound { self.period < 2 ^ 24 }
+        requires rest_lt_period { self.rest < self.period }
+        requires phase_lt_period { phase < self.period }
+        requires weight_bound { weight < 2 ^ 24 }
+        ensures { result ≡ rest_of whole self.periods self.period self.rest phase weight }
+    {
+        if whole {
+            return if phase < self.rest { weight } else { 0 };
+        }
+        if self.periods == 0 {
+            return self.rest.saturating_sub(phase).min(weight);
+        }
+        if phase <= self.rest {
+            return weight + (self.rest - phase).min(weight);
+        }
+        (self.rest + self.period - phase).min(weight)
     }
-    if x.periods == 0 {
-        return x.rest.saturating_sub(phase).min(weight);
-    }
-    if phase <= x.rest {
-        return weight + (x.rest - phase).min(weight);
-    }
-    (x.rest + x.period - phase).min(weight)
-}
 
-pub(crate) fn whole_periods(whole: bool, periods: u64) -> u64
-    ensures { result ≡ whole_periods whole periods }
-{
-    if whole {
-        return periods;
+    // The periods that are charged whole: of what jobs impose the last is part of the rest.
+    pub(crate) fn whole_periods(self, whole: bool) -> u64
+        ensures { result ≡ whole_periods whole self.periods }
+    {
+        if whole {
+            return self.periods;
+        }
+        self.periods.saturating_sub(1)
     }
-    periods.saturating_sub(1)
 }
 
 // Candidate c of transaction i in mode m, at a t that x splits, by the subject's work cells.
@@ -145,7 +149,9 @@ impl Setting<'_> {
         let weights = Work::WEIGHTS + Table::TASKS * self.m + self.x.first;
         let mut sum = 0;
         for j in 0..self.x.count {
-            sum += rest_of(self.x, whole, self.work[phases + j], self.work[weights + j]);
+            sum += self
+                .x
+                .rest_of(whole, self.work[phases + j], self.work[weights + j]);
         }
         sum
     }
@@ -173,7 +179,7 @@ impl Setting<'_> {
     pub(crate) fn charge(&self, whole: bool) -> Ticks
         ensures { result.0 ≡ charge (later_of whole) self.now.tab self.now.u self.now.a self.now.i self.now.m self.now.c (moment self.now.x) }
     {
-        let passed = whole_periods(whole, self.x.periods) * self.mode_weight();
+        let passed = self.x.whole_periods(whole) * self.mode_weight();
         let rest = u64::from(self.rests(whole));
         Ticks(self.held_back() + passed + rest)
     }
@@ -200,6 +206,7 @@ impl Setting<'_> {
 impl Linked<'_> {
     // The greatest charge of another transaction, over its modes and candidates: over the settings that are charged. The
     // settings are a list in fixed cells, so the number of the next is read there, and no `for` counts it.
+    #[tactic(auto, using(crate::proofs::Rooms::rooms))]
     fn greatest(&self, whole: bool, i: usize, t: Ticks) -> Ticks
         requires i_bound { i < transactions self.now.tab }
         requires t_le_horizon { t.0 ≤ horizon }
@@ -249,46 +256,4 @@ impl Linked<'_> {
         };
         Ticks(own.charge(whole).0 + sum)
     }
-}
-
-pub(crate) fn charge(
-    work: &[u32; Work::CELLS],
-    s: Subject,
-    whole: bool,
-    i: usize,
-    m: usize,
-    c: usize,
-    x: Split,
-) -> Ticks
-    requires { IsSetting work.now s i m c x }
-    ensures { result.0 ≡ charge (later_of whole) (table_of work.now) s.u s.a i m c (moment x) }
-{
-    let setting = Setting {
-        work,
-        s,
-        i,
-        m,
-        c,
-        x,
-    };
-    setting.charge(whole)
-}
-
-pub(crate) fn rivals(
-    work: &[u32; Work::CELLS],
-    s: Subject,
-    whole: bool,
-    m: usize,
-    c: usize,
-    t: Ticks,
-) -> Ticks
-    requires lent { Lent work.now }
-    requires subject { IsSubject work.now s }
-    requires task { IsTask (table_of work.now) s.u c }
-    requires m_bound { m < modes (table_of work.now) s.u }
-    requires t_le_horizon { t.0 ≤ horizon }
-    ensures { result.0 ≡ rivals (later_of whole) (table_of work.now) s.u s.a m c t.0 }
-{
-    let cells = Linked { work, s };
-    cells.rivals(whole, m, c, t)
 }

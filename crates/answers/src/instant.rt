@@ -6,8 +6,7 @@ ghost use Rattle.periods.specs.Phase.{ceiling};
 ghost use Rattle.analysis.specs.Choice.{count};
 ghost use Rattle.answers.specs.Near.{Near};
 
-use super::charges::Subject;
-use super::layout::Work;
+use super::lent::Linked;
 use super::quantity::{JobNumber, Jobs, Moment, Ticks};
 use super::{charges, reads};
 
@@ -40,18 +39,16 @@ fn first_job(held: Jobs) -> JobNumber
 }
 
 impl Instant {
-    ghost use Rattle.row.specs.Row.{table_of};
     ghost use Rattle.analysis.specs.Bound.{Setting};
     ghost use Rattle.answers.specs.Turn.{IsInstant};
-    ghost use Rattle.answers.specs.Work.{Lent, IsSubject};
 
     // The turn of candidate c in mode m.
-    pub(crate) fn of(work: &[u32; Work::CELLS], s: Subject, m: usize, c: usize) -> Instant
-        requires lent { Lent work.now }
-        requires subject { IsSubject work.now s }
-        requires setting { Setting (table_of work.now) s.u s.a m c }
-        ensures { IsInstant (table_of work.now) s.u s.a m c result }
+    pub(crate) fn of(cells: &Linked<'_>, m: usize, c: usize) -> Instant
+        requires { Setting cells.now.tab cells.now.u cells.now.a m c }
+        ensures { IsInstant cells.now.tab cells.now.u cells.now.a m c result }
     {
+        let work = cells.work;
+        let s = cells.s;
         Instant {
             mode: m,
             candidate: c,

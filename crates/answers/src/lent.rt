@@ -1,5 +1,7 @@
 // The work cells of a task under analysis, lent to those that only read them. The type says how far they are filled, so that no
-// reader has to ask for it, and its model is what the cells are of: task a of transaction u of a table.
+// reader has to ask for it, and its model is what the cells are of: task a of transaction u of a table. What fills them (`prepare`,
+// `weigh`, `link`) keeps clauses on the array: of a value that borrowed it by `&mut` no contract could say what the array holds
+// afterwards, and the weights of the next task go into the same cells.
 ghost use Rattle.row.specs.Row.{table_of};
 ghost use Rattle.answers.specs.Analysed.{Analysed};
 ghost use Rattle.answers.specs.Work.{Lent, Weighs, IsSubject};

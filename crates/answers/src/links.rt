@@ -6,7 +6,6 @@ ghost use Rattle.row.specs.Row.{table_of};
 ghost use Rattle.table.specs.Limits.{modes_most};
 ghost use Rattle.table.specs.Number.{in_all};
 ghost use Rattle.table.specs.Table.{IsTask, transactions, modes};
-ghost use Rattle.analysis.specs.Choice.{most};
 ghost use Rattle.charge.specs.Links.{Below, Dropped, Spare, Idle, NextSetting};
 ghost use Rattle.answers.specs.Parts.{SameTo, LinkedFrom, OthersFrom};
 ghost use Rattle.charge.specs.Weight.{weight, mode_weight};
@@ -20,6 +19,7 @@ use row::{Table, Transaction};
 
 impl Weighed<'_> {
     // The weight of task j of transaction i in mode m: 0 where it is no rival.
+    #[tactic(auto, using(crate::proofs::Rooms::rooms))]
     pub(crate) fn weight(&self, i: usize, m: usize, j: usize) -> u32
         requires task { IsTask self.now.tab i j }
         requires m_bound { m < modes self.now.tab i }
@@ -30,6 +30,7 @@ impl Weighed<'_> {
     }
 
     // The weights of transaction i in mode m together.
+    #[tactic(auto, using(crate::proofs::Rooms::rooms))]
     pub(crate) fn mode_weight(&self, i: usize, m: usize) -> u64
         requires i_bound { i < transactions self.now.tab }
         requires m_bound { m < modes self.now.tab i }
@@ -47,12 +48,7 @@ impl Weighed<'_> {
         ensures { result ≡ true → Below self.now.tab self.now.u self.now.a i m n }
     {
         let count = reads::tasks(self.work, i);
-        for j in 0..count {
-            if self.weight(i, n, j) < self.weight(i, m, j) {
-                return false;
-            }
-        }
-        true
+        (0..count).all(|j| self.weight(i, m, j) <= self.weight(i, n, j))
     }
 
     // Whether some later mode weighs no less.
@@ -62,12 +58,7 @@ impl Weighed<'_> {
         ensures { result ≡ true → Dropped self.now.tab self.now.u self.now.a i m }
     {
         let count = reads::modes(self.work, i);
-        for n in m + 1..count {
-            if self.is_below(i, m, n) {
-                return true;
-            }
-        }
-        false
+        (m + 1..count).any(|n| self.is_below(i, m, n))
     }
 
     // Whether the setting of candidate c in mode m is charged; else it is spare.
@@ -80,41 +71,22 @@ impl Weighed<'_> {
         self.weight(i, m, c) != 0 && !self.is_dropped(i, m)
     }
 
-    // The greatest weight of a mode of transaction i: 0 where it has no rival.
-    fn most_mode_weight(&self, i: usize) -> u64
-        requires { i < transactions self.now.tab }
-        ensures { result ≡ most (modes self.now.tab i) (mode_weight self.now.tab self.now.u self.now.a i) }
-    {
-        let count = reads::modes(self.work, i);
-        let mut best: u64 = 0;
-        for m in 0..count {
-            best = best.max(self.mode_weight(i, m));
-        }
-        best
-    }
-
     // Whether transaction i charges nothing beside that of the subject.
     fn is_idle(&self, i: usize) -> bool
         requires { i < transactions self.now.tab }
         ensures idle { result ≡ true → Idle self.now.tab self.now.u self.now.a i }
         ensures not_i { result ≡ false → ¬ (i ≡ self.now.u) }
     {
-        i == self.s.u || self.most_mode_weight(i) == 0
+        if i == self.s.u {
+            return true;
+        }
+        let count = reads::modes(self.work, i);
+        (0..count).all(|m| self.mode_weight(i, m) == 0)
     }
 }
 
-pub(crate) fn weight(work: &[u32; Work::CELLS], s: Subject, i: usize, m: usize, j: usize) -> u32
-    requires lent { Lent work.now }
-    requires weighs { Weighs work.now s }
-    requires task { IsTask (table_of work.now) i j }
-    requires m_bound { m < modes (table_of work.now) i }
-    ensures { result ≡ weight (table_of work.now) s.u s.a i m j }
-{
-    let cells = Weighed { work, s };
-    cells.weight(i, m, j)
-}
-
 // Links the settings of task number k, where `after` is the next setting from the next task on; answers the next one from k on.
+#[tactic(auto, using(crate::proofs::Rooms::rooms))]
 fn link_task(work: &mut [u32; Work::CELLS], s: Subject, k: usize, after: u32) -> u32
     requires lent { Lent work.old }
     requires weighs { Weighs work.old s }

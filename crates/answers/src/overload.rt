@@ -1,15 +1,11 @@
 // Overload: what the task under analysis and its rivals demand in one major frame.
 ghost use Rattle.std.specs.Prelude.{◌≡◌, ◌<◌, ◌*◌, ◌/◌};
-ghost use Rattle.row.specs.Row.{table_of};
 ghost use Rattle.table.specs.Table.{IsTask, transactions, period, modes, time};
 ghost use Rattle.analysis.specs.Choice.{when};
 ghost use Rattle.analysis.specs.Rival.{urgent?};
 ghost use Rattle.analysis.specs.Overload.{load, counts?, most_load, frame_demand, overload?};
 ghost use Rattle.answers.specs.Lent.{tested};
-ghost use Rattle.answers.specs.Work.{Lent, IsSubject};
 
-use super::charges::Subject;
-use super::layout::Work;
 use super::lent::Linked;
 use super::reads;
 
@@ -91,22 +87,4 @@ impl Linked<'_> {
     {
         reads::frame(self.work) < self.frame_demand()
     }
-}
-
-pub(crate) fn frame_demand(work: &[u32; Work::CELLS], s: Subject) -> u64
-    requires lent { Lent work.now }
-    requires subject { IsSubject work.now s }
-    ensures { result ≡ frame_demand (table_of work.now) s.u s.a }
-{
-    let cells = Linked { work, s };
-    cells.frame_demand()
-}
-
-pub(crate) fn is_overload(work: &[u32; Work::CELLS], s: Subject) -> bool
-    requires lent { Lent work.now }
-    requires subject { IsSubject work.now s }
-    ensures { result ≡ tested (overload? (table_of work.now) s.u s.a) }
-{
-    let cells = Linked { work, s };
-    cells.is_overload()
 }

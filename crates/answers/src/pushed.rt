@@ -10,7 +10,7 @@ ghost use Rattle.answers.specs.Explained.{Explains};
 ghost use Rattle.answers.specs.Turn.{source_meant};
 ghost use Rattle.answers.specs.Work.{work_cells, Lent, IsSubject};
 
-use super::charges::Subject;
+use super::charges::{Setting, Subject};
 use super::instant::Instant;
 use super::layout::Work;
 use super::lent::Linked;
@@ -28,11 +28,18 @@ fn parts_of(work: &[u32; Work::CELLS], s: Subject, bound: u32, by: Source) -> Pa
     requires bound_by { BoundBy imposed (table_of work.now) s.u s.a bound (source_meant by) }
     ensures { MadeOf (table_of work.now) s.u s.a bound (source_meant by) (parts_meant result) }
 {
-    let x = Instant::of(work, s, by.mode, by.candidate);
+    let x = Instant::of(&Linked { work, s }, by.mode, by.candidate);
     let arrives = x.arrival(x.job(by.job));
     let w = x.completion(bound, arrives);
-    let own = charges::split_of(work, s.u, w);
-    let rivals = charges::charge(work, s, false, s.u, by.mode, by.candidate, own);
+    let own = Setting {
+        work,
+        s,
+        i: s.u,
+        m: by.mode,
+        c: by.candidate,
+        x: charges::split_of(work, s.u, w),
+    };
+    let rivals = own.charge(false);
     Parts {
         completion: w.0 as u32,
         arrival: arrives.0,
@@ -99,7 +106,7 @@ pub(crate) fn charged(work: &[u32; Work::CELLS], s: Subject, whole: bool, i: usi
     }
     if i < reads::transactions(work) {
         let cells = Linked { work, s };
-        let Some(most) = cells.most_charged(whole, i, Ticks(reads::wide(t))) else {
+        let Some(most) = cells.most_charged(whole, i, Ticks(u64::from(t))) else {
             return Part::NoRivals;
         };
         return Part::Charged(Charge {

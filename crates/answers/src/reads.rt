@@ -1,4 +1,6 @@
 // The fields of the table that work cells begin with, by the readers of its row: transaction i, and task j of transaction i.
+#![tactic(auto, using(crate::proofs::Rooms::rooms, crate::proofs::Rooms::fields), unfolding(table::specs::Number::number))]
+
 ghost use Rattle.std.specs.Prelude.{◌≡◌, ◌<◌};
 ghost use Rattle.row.specs.Row.{table_of, RowOfTable};
 ghost use Rattle.table.specs.Table.{IsTask, transactions, period, modes, tasks, offset, blocking, priority, time};
@@ -7,18 +9,6 @@ ghost use Rattle.answers.specs.Lent.{Owner};
 
 use super::layout::Work;
 use row::Table;
-
-pub(crate) fn wide(x: u32) -> u64
-    ensures { result ≡ x }
-{
-    x as u64
-}
-
-pub(crate) fn index(x: u32) -> usize
-    ensures { result ≡ x }
-{
-    x as usize
-}
 
 pub(crate) fn frame(work: &[u32; Work::CELLS]) -> u64
     ensures { result ≡ (table_of work.now).frame }

@@ -1,7 +1,6 @@
 // The walk of one task: its modes, in each its candidates, and for each the L chain and then the jobs, lowest first. The
 // state goes in by value and comes back, with the count of evaluations and the greatest response so far.
 ghost use Rattle.std.specs.Prelude.{◌≡◌, ◌-◌, ◌<◌, ◌≤◌};
-ghost use Rattle.row.specs.Row.{table_of};
 ghost use Rattle.table.specs.Table.{modes, tasks};
 ghost use Rattle.periods.specs.Charge.{imposed};
 ghost use Rattle.analysis.specs.Rival.{Runs, candidate?};
@@ -10,14 +9,12 @@ ghost use Rattle.analysis.specs.Order.{walk_order};
 ghost use Rattle.analysis.specs.Walk.{nothing, better, walk_jobs, walk_turn, walk_turns};
 ghost use Rattle.answers.specs.Lent.{tested};
 ghost use Rattle.answers.specs.Turn.{IsInstant, Lasts, best_meant, walked, turns_from, mode_turns};
-ghost use Rattle.answers.specs.Work.{Lent, IsSubject};
 
 use super::chains::Stopped;
-use super::charges::Subject;
 use super::instant::Instant;
-use super::layout::Work;
+use super::lent::{Linked, Weighed};
 use super::quantity::{Jobs, Ticks};
-use super::{chains, links, reads};
+use super::reads;
 
 // A job of the walk: mode, candidate, and the job counted from the candidate's first.
 #[derive(Clone, Copy)]
@@ -48,15 +45,19 @@ fn better(x: Best, y: Best) -> Best
     if x.response.0 < y.response.0 { y } else { x }
 }
 
-// Whether task c is a candidate of the subject in mode m.
-fn is_candidate(work: &[u32; Work::CELLS], s: Subject, m: usize, c: usize) -> bool
-    requires lent { Lent work.now }
-    requires subject { IsSubject work.now s }
-    requires m_bound { m < modes (table_of work.now) s.u }
-    requires c_bound { c < tasks (table_of work.now) s.u }
-    ensures { result ≡ tested (candidate? (table_of work.now) s.u s.a m c) }
-{
-    c == s.a || links::weight(work, s, s.u, m, c) != 0
+impl Linked<'_> {
+    // Whether task c is a candidate of the subject in mode m.
+    fn is_candidate(&self, m: usize, c: usize) -> bool
+        requires m_bound { m < modes self.now.tab self.now.u }
+        requires c_bound { c < tasks self.now.tab self.now.u }
+        ensures { result ≡ tested (candidate? self.now.tab self.now.u self.now.a m c) }
+    {
+        let cells = Weighed {
+            work: self.work,
+            s: self.s,
+        };
+        c == self.s.a || cells.weight(self.s.u, m, c) != 0
+    }
 }
 
 impl Walk {
@@ -79,23 +80,20 @@ impl Walk {
     // One job: its chain, and its response.
     fn job(
         self,
-        work: &[u32; Work::CELLS],
-        s: Subject,
+        cells: &Linked<'_>,
         x: Instant,
         n: Jobs,
         jobs: Jobs,
         budget: u32,
     ) -> Result<Walk, Stopped>
-        requires lent { Lent work.now }
-        requires subject { IsSubject work.now s }
-        requires instant { IsInstant (table_of work.now) s.u s.a x.mode x.candidate x }
-        requires lasts { Lasts (table_of work.now) s.u s.a x.mode x.candidate jobs.0 }
+        requires instant { IsInstant cells.now.tab cells.now.u cells.now.a x.mode x.candidate x }
+        requires lasts { Lasts cells.now.tab cells.now.u cells.now.a x.mode x.candidate jobs.0 }
         requires n_lt_jobs { n.0 < jobs.0 }
         requires used_le_budget { self.used ≤ budget }
-        ensures { result ≡ walked budget (walk_jobs imposed (table_of work.now) s.u s.a x.mode x.candidate 1 n.0 (budget - self.used) (best_meant self.best)) }
+        ensures { result ≡ walked budget (walk_jobs imposed cells.now.tab cells.now.u cells.now.a x.mode x.candidate 1 n.0 (budget - self.used) (best_meant self.best)) }
     {
         let p = x.job(n);
-        let came = chains::job_chain(work, s, x, p, budget, self.used)?;
+        let came = cells.job_chain(x, p, budget, self.used)?;
         let met = Best {
             response: x.response(p, came.t),
             source: Source {
@@ -111,118 +109,76 @@ impl Walk {
     }
 
     // The jobs of one turn, lowest first.
-    fn jobs(
-        self,
-        work: &[u32; Work::CELLS],
-        s: Subject,
-        x: Instant,
-        jobs: Jobs,
-        budget: u32,
-    ) -> Result<Walk, Stopped>
-        requires lent { Lent work.now }
-        requires subject { IsSubject work.now s }
-        requires instant { IsInstant (table_of work.now) s.u s.a x.mode x.candidate x }
-        requires lasts { Lasts (table_of work.now) s.u s.a x.mode x.candidate jobs.0 }
+    fn jobs(self, cells: &Linked<'_>, x: Instant, jobs: Jobs, budget: u32) -> Result<Walk, Stopped>
+        requires instant { IsInstant cells.now.tab cells.now.u cells.now.a x.mode x.candidate x }
+        requires lasts { Lasts cells.now.tab cells.now.u cells.now.a x.mode x.candidate jobs.0 }
         requires used_le_budget { self.used ≤ budget }
-        ensures { result ≡ walked budget (walk_jobs imposed (table_of work.now) s.u s.a x.mode x.candidate jobs.0 0 (budget - self.used) (best_meant self.best)) }
+        ensures { result ≡ walked budget (walk_jobs imposed cells.now.tab cells.now.u cells.now.a x.mode x.candidate jobs.0 0 (budget - self.used) (best_meant self.best)) }
     {
         let mut state = self;
         for n in 0..jobs.0 {
-            state = state.job(work, s, x, Jobs(n), jobs, budget)?;
+            state = state.job(cells, x, Jobs(n), jobs, budget)?;
         }
         Ok(state)
     }
 
     // One turn: the L chain, then the jobs.
-    fn turn(
-        self,
-        work: &[u32; Work::CELLS],
-        s: Subject,
-        m: usize,
-        c: usize,
-        budget: u32,
-    ) -> Result<Walk, Stopped>
-        requires lent { Lent work.now }
-        requires subject { IsSubject work.now s }
-        requires setting { Setting (table_of work.now) s.u s.a m c }
+    fn turn(self, cells: &Linked<'_>, m: usize, c: usize, budget: u32) -> Result<Walk, Stopped>
+        requires setting { Setting cells.now.tab cells.now.u cells.now.a m c }
         requires used_le_budget { self.used ≤ budget }
-        ensures { result ≡ walked budget (walk_turn imposed (table_of work.now) s.u s.a (record { mode = m; candidate = c }) (budget - self.used) (best_meant self.best)) }
+        ensures { result ≡ walked budget (walk_turn imposed cells.now.tab cells.now.u cells.now.a (record { mode = m; candidate = c }) (budget - self.used) (best_meant self.best)) }
     {
-        let x = Instant::of(work, s, m, c);
-        let came = chains::busy_chain(work, s, x, budget, self.used)?;
+        let x = Instant::of(cells, m, c);
+        let came = cells.busy_chain(x, budget, self.used)?;
         let jobs = x.jobs_to(x.last_job(came.t));
         let state = Walk {
             used: came.used,
             best: self.best,
         };
-        state.jobs(work, s, x, jobs, budget)
+        state.jobs(cells, x, jobs, budget)
     }
 
     // The turn of c, if it is a candidate.
-    fn candidate(
-        self,
-        work: &[u32; Work::CELLS],
-        s: Subject,
-        m: usize,
-        c: usize,
-        budget: u32,
-    ) -> Result<Walk, Stopped>
-        requires lent { Lent work.now }
-        requires subject { IsSubject work.now s }
-        requires m_bound { m < modes (table_of work.now) s.u }
-        requires runs { Runs (table_of work.now) s.u m s.a }
-        requires c_bound { c < tasks (table_of work.now) s.u }
+    fn candidate(self, cells: &Linked<'_>, m: usize, c: usize, budget: u32) -> Result<Walk, Stopped>
+        requires m_bound { m < modes cells.now.tab cells.now.u }
+        requires runs { Runs cells.now.tab cells.now.u m cells.now.a }
+        requires c_bound { c < tasks cells.now.tab cells.now.u }
         requires used_le_budget { self.used ≤ budget }
-        ensures { result ≡ walked budget (walk_turns imposed (table_of work.now) s.u s.a (turns_from (table_of work.now) s.u s.a m c 1) (budget - self.used) (best_meant self.best)) }
+        ensures { result ≡ walked budget (walk_turns imposed cells.now.tab cells.now.u cells.now.a (turns_from cells.now.tab cells.now.u cells.now.a m c 1) (budget - self.used) (best_meant self.best)) }
     {
-        if is_candidate(work, s, m, c) {
-            self.turn(work, s, m, c, budget)
+        if cells.is_candidate(m, c) {
+            self.turn(cells, m, c, budget)
         } else {
             Ok(self)
         }
     }
 
     // The candidates of one mode, in image order.
-    fn mode(
-        self,
-        work: &[u32; Work::CELLS],
-        s: Subject,
-        m: usize,
-        budget: u32,
-    ) -> Result<Walk, Stopped>
-        requires lent { Lent work.now }
-        requires subject { IsSubject work.now s }
-        requires m_bound { m < modes (table_of work.now) s.u }
+    fn mode(self, cells: &Linked<'_>, m: usize, budget: u32) -> Result<Walk, Stopped>
+        requires m_bound { m < modes cells.now.tab cells.now.u }
         requires used_le_budget { self.used ≤ budget }
-        ensures { result ≡ walked budget (walk_turns imposed (table_of work.now) s.u s.a (mode_turns (table_of work.now) s.u s.a m) (budget - self.used) (best_meant self.best)) }
+        ensures { result ≡ walked budget (walk_turns imposed cells.now.tab cells.now.u cells.now.a (mode_turns cells.now.tab cells.now.u cells.now.a m) (budget - self.used) (best_meant self.best)) }
     {
-        if reads::time(work, s.u, m, s.a) == 0 {
+        if reads::time(cells.work, cells.s.u, m, cells.s.a) == 0 {
             return Ok(self);
         }
-        let count = reads::tasks(work, s.u);
+        let count = reads::tasks(cells.work, cells.s.u);
         let mut state = self;
         for c in 0..count {
-            state = state.candidate(work, s, m, c, budget)?;
+            state = state.candidate(cells, m, c, budget)?;
         }
         Ok(state)
     }
 
     // The whole walk: the modes in ascending order.
-    pub(crate) fn modes(
-        self,
-        work: &[u32; Work::CELLS],
-        s: Subject,
-        budget: u32,
-    ) -> Result<Walk, Stopped>
-        requires lent { Lent work.now }
-        requires subject { IsSubject work.now s }
+    pub(crate) fn modes(self, cells: &Linked<'_>, budget: u32) -> Result<Walk, Stopped>
         requires used_le_budget { self.used ≤ budget }
-        ensures { result ≡ walked budget (walk_turns imposed (table_of work.now) s.u s.a (walk_order (table_of work.now) s.u s.a) (budget - self.used) (best_meant self.best)) }
+        ensures { result ≡ walked budget (walk_turns imposed cells.now.tab cells.now.u cells.now.a (walk_order cells.now.tab cells.now.u cells.now.a) (budget - self.used) (best_meant self.best)) }
     {
-        let count = reads::modes(work, s.u);
+        let count = reads::modes(cells.work, cells.s.u);
         let mut state = self;
         for m in 0..count {
-            state = state.mode(work, s, m, budget)?;
+            state = state.mode(cells, m, budget)?;
         }
         Ok(state)
     }

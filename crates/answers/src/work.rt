@@ -46,7 +46,8 @@ pub(crate) fn task(work: &[u32; Work::CELLS], k: usize) -> Subject
     }
 }
 
-// Phase of task j when candidate c sets the critical instant.
+// Phase of task j when candidate c sets the critical instant, worked out of the row; `charges` reads it from its cell.
+#[tactic(auto, using(crate::proofs::Rooms::ranges, crate::proofs::Rooms::fields), unfolding(analysis::specs::Charge::phase_of))]
 fn phase_of(work: &[u32; Work::CELLS], i: usize, c: usize, j: usize) -> u32
     requires row_of_table { RowOfTable work.now }
     requires task { IsTask (table_of work.now) i c }
@@ -62,7 +63,8 @@ fn phase_of(work: &[u32; Work::CELLS], i: usize, c: usize, j: usize) -> u32
     )
 }
 
-// Jobs of task j held back to the instant.
+// Jobs of task j held back to the instant, likewise.
+#[tactic(auto, using(crate::proofs::Rooms::ranges, crate::proofs::Rooms::fields), unfolding(analysis::specs::Charge::held_of, periods::specs::Phase::held))]
 fn held_of(work: &[u32; Work::CELLS], i: usize, c: usize, j: usize) -> u32
     requires row_of_table { RowOfTable work.now }
     requires task { IsTask (table_of work.now) i c }
@@ -74,6 +76,7 @@ fn held_of(work: &[u32; Work::CELLS], i: usize, c: usize, j: usize) -> u32
 }
 
 // The phases, and the jobs held back, of candidate number k.
+#[tactic(auto, using(crate::proofs::Rooms::rooms))]
 fn put_phases(work: &mut [u32; Work::CELLS], k: usize)
     requires row_of_table { RowOfTable work.old }
     requires work_len { length work.old ≡ work_cells }
@@ -108,6 +111,7 @@ pub(crate) fn prepare(work: &mut [u32; Work::CELLS])
 }
 
 // The time of task j, number k, in mode m where it is a rival of the subject, else 0.
+#[tactic(auto, using(crate::proofs::Rooms::rooms))]
 fn weight(work: &[u32; Work::CELLS], s: Subject, i: usize, m: usize, j: usize, k: usize) -> u32
     requires row_of_table { RowOfTable work.now }
     requires chosen { Chosen (table_of work.now) s }
@@ -194,6 +198,7 @@ fn put_sums(work: &mut [u32; Work::CELLS], s: Subject, of: Mode)
     }
 }
 
+#[tactic(auto, using(crate::proofs::Rooms::rooms))]
 fn weigh_transaction(work: &mut [u32; Work::CELLS], s: Subject, i: usize)
     requires lent { Lent work.old }
     requires chosen { Chosen (table_of work.old) s }

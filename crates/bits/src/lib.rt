@@ -35,7 +35,7 @@ pub fn inside(image: &[u8], at: usize, width: usize) -> bool
 }
 
 // An image and a place in it. The functions over it are few and thin: each takes the reader apart, and leaves the work to
-// a function over the image and the place.
+// a function over the image and the place. They are no methods: `new`, `moved` and `next` are promised by these names.
 #[derive(Clone, Copy)]
 pub struct Reader<'a> {
     pub image: &'a [u8],

@@ -67,9 +67,11 @@ fn put_chunk(buffer: &mut [u8], byte: usize, from: usize, take: usize, value: u3
     }
 }
 
+// The same of eight bits, whatever the byte held.
 fn put_byte(buffer: &mut [u8], byte: usize, value: u32)
     ensures { buffer.new ≡ bits_put buffer.old (8 * byte) (field_bits 8 value) }
 {
+    // as there, not by `get_mut`
     if byte < buffer.len() {
         buffer[byte] = (value % 256) as u8;
     }

@@ -5,7 +5,7 @@ ghost use Rattle.table.specs.Limits.{horizon, frame_most};
 ghost use Rattle.row.specs.Row.{empty_row};
 
 // A table as one flat row, which is lent below as `&[u32; Table::CELLS]`: a header, then the transactions, then the tasks
-// in image order.
+// in image order. It is flat, and no array of structs: C lends it so, to `sumpcandle_read` and `sumpcandle_write`.
 #[derive(Clone, Copy)]
 pub struct Table {
     pub cells: [u32; Table::CELLS],

@@ -59,36 +59,6 @@ module _ {old : List ℕ} {s : Subject} {k i first many : ℕ} (h : Here old s k
     begun-table : table_of begun ≡ table_of old
     begun-table = (leaves begun (same_refl settings_cell begun)).1.1
 
-pub overflow_add-work : goal.overflow_add-work
-overflow_add-work c = omega (arith, modes-few c.requires.lent.table.kept c.owner-i.ensures.is_task.owner)
-
-pub overflow_add-work-2 : goal.overflow_add-work-2
-overflow_add-work-2 c = omega (arith, modes-few c.requires.lent.table.kept c.owner-i.ensures.is_task.owner)
-
-pub offset_bounds-work-k : goal.offset_bounds-work-k
-offset_bounds-work-k c = omega (arith, modes-few c.requires.lent.table.kept c.owner-i.ensures.is_task.owner)
-
-pub bounds-work-k : goal.bounds-work-k
-bounds-work-k c = omega (arith, modes-few c.requires.lent.table.kept c.owner-i.ensures.is_task.owner)
-
-pub overflow_add-next : goal.overflow_add-next
-overflow_add-next c = omega (arith, modes-few c.requires.lent.table.kept c.owner-i.ensures.is_task.owner)
-
-pub overflow_cast-next : goal.overflow_cast-next
-overflow_cast-next c = omega (arith, modes-few c.requires.lent.table.kept c.owner-i.ensures.is_task.owner)
-
-pub overflow_add-work-in-loop-m : goal.overflow_add-work-in-loop-m
-overflow_add-work-in-loop-m c = omega (arith, modes-few c.requires.lent.table.kept c.owner-i.ensures.is_task.owner)
-
-pub overflow_add-work-in-loop-m-2 : goal.overflow_add-work-in-loop-m-2
-overflow_add-work-in-loop-m-2 c = omega (arith, modes-few c.requires.lent.table.kept c.owner-i.ensures.is_task.owner)
-
-pub offset_bounds-work-k-in-loop-m : goal.offset_bounds-work-k-in-loop-m
-offset_bounds-work-k-in-loop-m c = omega (arith, modes-few c.requires.lent.table.kept c.owner-i.ensures.is_task.owner)
-
-pub bounds-work-k-in-loop-m : goal.bounds-work-k-in-loop-m
-bounds-work-k-in-loop-m c = omega (arith, modes-few c.requires.lent.table.kept c.owner-i.ensures.is_task.owner)
-
 pub overflow_sub-c : goal.overflow_sub-c
 overflow_sub-c c = omega (arith, c.before-2.ensures, c.owner-i.ensures.numbered)
 

@@ -46,22 +46,22 @@ returns-then-i-s c = ChargedBy.own c.if-i-s.true
 pub returns-in_default : goal.returns-in_default
 unfolding most_said part_said
 returns-in_default c =
-    ChargedBy.other (record { there = omega arith; other = c.if-i-s.false }) (greatest-is c.args.whole {y = None} c.most_charged.ensures c.wide.ensures c.in_default.is) refl
+    ChargedBy.other (record { there = omega arith; other = c.if-i-s.false }) (greatest-is c.args.whole {y = None} c.most_charged.ensures c.from.ensures c.in_default.is) refl
 
 pub overflow_cast-result : goal.overflow_cast-result
 overflow_cast-result c =
-    let most = found c.args.whole c.in-Some.most c.most_charged.ensures c.wide.ensures c.in-Some.is in
+    let most = found c.args.whole c.in-Some.most c.most_charged.ensures c.from.ensures c.in-Some.is in
     omega (arith, (most-gives most).mode, modes-few c.requires.lent.table.kept {i = c.args.i} (omega arith))
 
 pub number-requires-clause-task : goal.number-requires-clause-task
 number-requires-clause-task c =
-    let most = found c.args.whole c.in-Some.most c.most_charged.ensures c.wide.ensures c.in-Some.is in
+    let most = found c.args.whole c.in-Some.most c.most_charged.ensures c.from.ensures c.in-Some.is in
     record { owner = omega arith; place = (most-gives most).place }
 
 pub overflow_cast-result-then-i-transactions : goal.overflow_cast-result-then-i-transactions
 overflow_cast-result-then-i-transactions c =
     let tab = table_of c.args.work.now in
-    let most = found c.args.whole c.in-Some.most c.most_charged.ensures c.wide.ensures c.in-Some.is in
+    let most = found c.args.whole c.in-Some.most c.most_charged.ensures c.from.ensures c.in-Some.is in
     let is : IsTask tab c.args.i c.in-Some.most.by.candidate = record { owner = omega arith; place = (most-gives most).place } in
     omega (arith, c.number.ensures, number_lt tab is, c.requires.lent.table.kept.few_tasks)
 
@@ -69,7 +69,7 @@ pub returns-then-i-transactions : goal.returns-then-i-transactions
 unfolding part_said
 returns-then-i-transactions c =
     let this = c.in-Some.most in
-    ChargedBy.other (record { there = omega arith; other = c.if-i-s.false }) (found c.args.whole this c.most_charged.ensures c.wide.ensures c.in-Some.is)
+    ChargedBy.other (record { there = omega arith; other = c.if-i-s.false }) (found c.args.whole this c.most_charged.ensures c.from.ensures c.in-Some.is)
     (ap (λ (n : ℕ). part.Charged (record { ticks = this.ticks.0; mode = this.by.mode; candidate = n })) (sym c.number.ensures))
 
 pub returns : goal.returns

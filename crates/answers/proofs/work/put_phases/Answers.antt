@@ -27,24 +27,6 @@ held_of-held-requires c =
     let is = c.task-x.ensures.chosen.is_task in
     record { row_of_table = row; task = rw e is; task_2 = rw e (record { owner = is.owner; place = omega (arith, c.tasks-count.ensures) }) }
 
-pub overflow_add-work-in-loop-j : goal.overflow_add-work-in-loop-j
-overflow_add-work-in-loop-j c = omega (arith, tasks-few c.requires.row_of_table.kept c.task-x.ensures.chosen.is_task.owner)
-
-pub offset_bounds-work-k : goal.offset_bounds-work-k
-offset_bounds-work-k c = omega (arith, tasks-few c.requires.row_of_table.kept c.task-x.ensures.chosen.is_task.owner)
-
-pub bounds-work-k : goal.bounds-work-k
-bounds-work-k c = omega (arith, tasks-few c.requires.row_of_table.kept c.task-x.ensures.chosen.is_task.owner)
-
-pub overflow_add-work-in-loop-j-3 : goal.overflow_add-work-in-loop-j-3
-overflow_add-work-in-loop-j-3 c = omega (arith, tasks-few c.requires.row_of_table.kept c.task-x.ensures.chosen.is_task.owner)
-
-pub offset_bounds-work-k-in-loop-j : goal.offset_bounds-work-k-in-loop-j
-offset_bounds-work-k-in-loop-j c = omega (arith, tasks-few c.requires.row_of_table.kept c.task-x.ensures.chosen.is_task.owner)
-
-pub bounds-work-k-in-loop-j : goal.bounds-work-k-in-loop-j
-bounds-work-k-in-loop-j c = omega (arith, tasks-few c.requires.row_of_table.kept c.task-x.ensures.chosen.is_task.owner)
-
 pub loop-j-preserved : goal.loop-j-preserved
 loop-j-preserved c =
     let x = c.task-x.result in

@@ -6,8 +6,6 @@ use native.Mathlib.Omega.{arith}
 use Rattle.row.specs.Row.{table_of}
 use Rattle.table.specs.Limits.{modes_most}
 use Rattle.table.specs.Table.{Table, modes as modes_in}
-use Rattle.table.proofs.Ranges.{modes-few, tasks-few}
-use Rattle.charge.proofs.Along.{end-le}
 use Rattle.answers.specs.Work.{weights_cell}
 use Rattle.answers.specs.Parts.{WeighedTo}
 use Rattle.answers.proofs.Filling.{same_refl, same-trans, lent_same}
@@ -20,17 +18,6 @@ loop-m-init c =
       same_refl weights_cell x.work.now,
       subst (λ (k : ℕ). WeighedTo (table_of x.work.now) x.s.u x.s.a k x.work.now) (sym (add-zero (modes_most * x.i))) c.requires.weighed_to,
     )
-
-pub invariant_of-of : goal.invariant_of-of
-invariant_of-of c =
-    let kept = c.requires.lent.table.kept in
-    let i = c.requires.i_bound in
-    record {
-      in_table = omega (arith, kept.few_transactions);
-      few_modes = omega (arith, modes-few kept i);
-      few_tasks = omega (arith, tasks-few kept i);
-      within = omega (arith, end-le i kept);
-    }
 
 pub put_weights-requires : goal.put_weights-requires
 put_weights-requires c =

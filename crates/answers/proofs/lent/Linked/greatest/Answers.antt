@@ -7,38 +7,8 @@ use Rattle.analysis.specs.Charge.{greatest}
 use Rattle.charge.specs.Later.{later_of}
 use Rattle.answers.specs.Split.{moment}
 use Rattle.charge.proofs.Along.{along-first, along-next, along-last}
-use Rattle.answers.proofs.Readings.{first-setting, next-setting, setting-in, split-room, at-setting}
+use Rattle.answers.proofs.Readings.{first-setting, next-setting, setting-in, at-setting}
 use Rattle.answers.proofs.lent.Linked.greatest.Goals as goal
-
-pub overflow_add-end : goal.overflow_add-end
-overflow_add-end c = omega (arith, split-room c.self.invariant.0 c.split_of-x.ensures.is_split)
-
-pub overflow_mul-end : goal.overflow_mul-end
-overflow_mul-end c = omega (arith, split-room c.self.invariant.0 c.split_of-x.ensures.is_split)
-
-pub overflow_mul-z : goal.overflow_mul-z
-overflow_mul-z c = omega (arith, split-room c.self.invariant.0 c.split_of-x.ensures.is_split)
-
-pub overflow_add-z : goal.overflow_add-z
-overflow_add-z c = omega (arith, split-room c.self.invariant.0 c.split_of-x.ensures.is_split)
-
-pub offset_bounds-self-inside-x : goal.offset_bounds-self-inside-x
-offset_bounds-self-inside-x c = omega (arith, split-room c.self.invariant.0 c.split_of-x.ensures.is_split)
-
-pub bounds-self-inside-x : goal.bounds-self-inside-x
-bounds-self-inside-x c = omega (arith, split-room c.self.invariant.0 c.split_of-x.ensures.is_split)
-
-pub overflow_add-z-in-loop-z : goal.overflow_add-z-in-loop-z
-overflow_add-z-in-loop-z c = omega (arith, split-room c.self.invariant.0 c.split_of-x.ensures.is_split)
-
-pub overflow_add-z-in-loop-z-2 : goal.overflow_add-z-in-loop-z-2
-overflow_add-z-in-loop-z-2 c = omega (arith, split-room c.self.invariant.0 c.split_of-x.ensures.is_split)
-
-pub offset_bounds-self-inside-z : goal.offset_bounds-self-inside-z
-offset_bounds-self-inside-z c = omega (arith, split-room c.self.invariant.0 c.split_of-x.ensures.is_split)
-
-pub bounds-self-inside-z : goal.bounds-self-inside-z
-bounds-self-inside-z c = omega (arith, split-room c.self.invariant.0 c.split_of-x.ensures.is_split)
 
 pub loop-z-init : goal.loop-z-init
 loop-z-init c =

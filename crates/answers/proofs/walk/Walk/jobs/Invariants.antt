@@ -1,5 +1,4 @@
 use Prim.Native.Nat.{◌-◌}
-use Rattle.row.specs.Row.{table_of}
 use Rattle.periods.specs.Charge.{imposed}
 use Rattle.analysis.specs.Walk.{walk_jobs}
 use Rattle.answers.specs.Turn.{best_meant}
@@ -9,6 +8,6 @@ use Rattle.answers.proofs.walk.Walk.jobs.Given as goal
 abbrev pub invariant-loop-n : goal.invariant-loop-n
 invariant-loop-n l =
     Going l.budget
-    (walk_jobs imposed (table_of l.work) l.s.u l.s.a l.x.mode l.x.candidate l.jobs.0 0 (l.budget - l.initial.state.used) (best_meant l.initial.state.best))
-    (walk_jobs imposed (table_of l.work) l.s.u l.s.a l.x.mode l.x.candidate (l.n-end - l.n) l.n)
+    (walk_jobs imposed l.cells.tab l.cells.u l.cells.a l.x.mode l.x.candidate l.jobs.0 0 (l.budget - l.initial.state.used) (best_meant l.initial.state.best))
+    (walk_jobs imposed l.cells.tab l.cells.u l.cells.a l.x.mode l.x.candidate (l.n-end - l.n) l.n)
     l.state

@@ -1,9 +1,0 @@
--- What the row's reader gives by the number of a task that there is, is its field. Assumes nothing.
-use mathlib.Core.Path.{◌∙◌}
-use Rattle.row.proofs.Fields.{read-time}
-use Rattle.answers.proofs.reads.time.Goals as goal
-
-pub returns : goal.returns
-returns c =
-    let n = c in
-    c.from.ensures ∙ c.time.ensures ∙ rw n.number.ensures (read-time n.requires.row_of_table n.requires.task n.requires.m_bound)
