@@ -26,6 +26,7 @@ pub fn take_in(from: &mut Stdin, buffer: &mut [u8]) -> io::Result<usize>
 pub fn take_from<R: Read>(from: &mut R, buffer: &mut [u8]) -> io::Result<usize>
     ensures { Within (length buffer.new) result }
 {
+    // no `for`: a turn goes on by as many bytes as its read gave
     let mut n: usize = 0;
     while n < buffer.len() {
         let more = from.read(&mut buffer[n..])?;

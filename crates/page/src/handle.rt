@@ -43,6 +43,7 @@ impl Out {
         }
     }
 
+    #[tactic(auto, unfolding(crate::specs::Whole::taken))]
     pub fn say(&mut self, text: &[u8]) -> io::Result<()>
         ensures { Writes self.old self.new result }
     {
@@ -57,6 +58,7 @@ impl Out {
     }
 
     // What `write!` calls.
+    #[tactic(auto, unfolding(crate::specs::Whole::taken))]
     pub fn write_fmt<D: Display + Drop>(&mut self, text: D) -> io::Result<()>
         ensures { Writes self.old self.new result }
     {
