@@ -1,9 +1,10 @@
 -- What the fill leaves, group by group, is the row of the table that the image says.
-use mathlib.Core.Path.{◌≡◌, refl, sym, ◌∙◌}
+use mathlib.Core.Path.{◌≡◌, refl, sym, ap, ◌∙◌}
 use mathlib.Core.List.{List, [], ◌∷◌, ◌++◌}
 use Prim.Native.Nat.{ℕ, ◌*◌, ◌≤◌, ◌<◌}
 use native.Mathlib.Omega.{arith}
-use lib.ListN.{length}
+use lib.ListN.{length, take, drop}
+use Rattle.std.proofs.lemmas.List.{take-append-drop, length-take-le}
 use lib.Seq.{sets, length-sets}
 use Rattle.table.specs.Table.{Table, transactions, transaction, tasks, task}
 use Rattle.table.specs.Limits.{transactions_most, tasks_in_all}
@@ -109,3 +110,10 @@ module _ (image : List ℕ) where
           sets_first every one rest tasks_cell (omega (arith, few-every)),
           sets_first (edition_in image ∷ frame_in image ∷ count_in image ∷ tasks_before image (count_in image) ∷ 0 ∷ []) (sets one tasks_cell every) rest 0 (omega arith),
         )
+
+    -- a row in front of cells, filled and put back
+    pub filled-chunk : (cells row : List ℕ) → row_cells ≤ length cells → row ≡ take row_cells cells → filled_over image row ++ drop row_cells cells ≡ filled_over image cells
+    filled-chunk cells row enough front =
+        rw front
+        (sym (filled-front (take row_cells cells) (drop row_cells cells) (length-take-le row_cells cells enough))
+        ∙ ap (filled_over image) (take-append-drop row_cells cells))

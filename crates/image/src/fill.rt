@@ -1,5 +1,5 @@
-// The row of an accepted image: a fill that cannot fail, into the front of lent cells, which are as many as a row has or more.
-ghost use Rattle.std.specs.Prelude.{◌≡◌, [], ◌∷◌, ◌+◌, ◌*◌, ◌^◌, ◌<◌, ◌≤◌, length, get_or};
+// The row of an accepted image: a fill that cannot fail, into the cells of a row.
+ghost use Rattle.std.specs.Prelude.{◌≡◌, [], ◌∷◌, ◌+◌, ◌*◌, ◌^◌, ◌<◌, ◌≤◌, get_or};
 ghost use Rattle.std.proofs.lemmas.List.Edits.{sets};
 ghost use Rattle.table.specs.Limits.{modes_most};
 ghost use Rattle.table.specs.Lists.{list_of};
@@ -18,9 +18,8 @@ fn time(task: TaskAt, m: usize) -> u32
     if m < task.modes { task.time(m) } else { 0 }
 }
 
-fn put_times(task: TaskAt, cells: &mut [u32], cell: usize)
+fn put_times(task: TaskAt, cells: &mut [u32; Table::CELLS], cell: usize)
     requires modes_most_bound { cell + modes_most ≤ row_cells }
-    requires row_cells_in_bounds { row_cells ≤ length cells.old }
     ensures { cells.new ≡ sets cells.old cell (list_of modes_most (λ m. get_or (list_of task.entry.modes (time_in task.entry.image.now task.entry.at)) m 0)) }
 {
     for m in 0..Transaction::MODES {
@@ -29,10 +28,9 @@ fn put_times(task: TaskAt, cells: &mut [u32], cell: usize)
 }
 
 // A task of transaction `owner`.
-fn put_task(task: TaskAt, owner: u32, cells: &mut [u32], cell: usize)
+fn put_task(task: TaskAt, owner: u32, cells: &mut [u32; Table::CELLS], cell: usize)
     requires modes_le_modes_most { task.modes ≤ modes_most }
     requires task_cells_bound { cell + task_cells ≤ row_cells }
-    requires row_cells_in_bounds { row_cells ≤ length cells.old }
     ensures { cells.new ≡ sets cells.old cell (of_task owner (task_in task.entry.image.now task.entry.modes task.entry.at)) }
 {
     let body = task.body();
@@ -46,10 +44,9 @@ fn put_task(task: TaskAt, owner: u32, cells: &mut [u32], cell: usize)
 }
 
 // A transaction but its tasks, the first of which has the number `first`.
-fn put_head(t: TransactionAt, first: usize, cells: &mut [u32], cell: usize)
+fn put_head(t: TransactionAt, first: usize, cells: &mut [u32; Table::CELLS], cell: usize)
     requires first_bound { first < 2 ^ 32 }
     requires transaction_cells_bound { cell + transaction_cells ≤ row_cells }
-    requires row_cells_in_bounds { row_cells ≤ length cells.old }
     ensures { cells.new ≡ sets cells.old cell (t.entry.head.period ∷ t.entry.head.modes ∷ first ∷ t.entry.head.tasks ∷ 0 ∷ []) }
 {
     cells[cell + Transaction::PERIOD_CELL] = t.head.period;
@@ -60,10 +57,9 @@ fn put_head(t: TransactionAt, first: usize, cells: &mut [u32], cell: usize)
 }
 
 // The tasks of transaction `owner`.
-fn put_tasks(t: TransactionAt, owner: u32, cells: &mut [u32], cell: usize)
+fn put_tasks(t: TransactionAt, owner: u32, cells: &mut [u32; Table::CELLS], cell: usize)
     requires modes_le_modes_most { t.head.modes ≤ modes_most }
     requires task_cells_bound { cell + t.head.tasks * task_cells ≤ row_cells }
-    requires row_cells_in_bounds { row_cells ≤ length cells.old }
     ensures { cells.new ≡ sets cells.old cell (of_tasks_in t.entry.image.now t.entry.at owner) }
 {
     for j in 0..t.head.tasks {
@@ -72,10 +68,9 @@ fn put_tasks(t: TransactionAt, owner: u32, cells: &mut [u32], cell: usize)
 }
 
 // The transactions, so many, with their tasks. The result is how many tasks there are in all.
-fn put_transactions(image: &[u8], count: u32, cells: &mut [u32]) -> u32
+fn put_transactions(image: &[u8], count: u32, cells: &mut [u32; Table::CELLS]) -> u32
     requires accepted { IsAccepted image.now }
     requires count_value { count ≡ count_in image.now }
-    requires row_cells_in_bounds { row_cells ≤ length cells.old }
     ensures value { result ≡ tasks_before image.now (count_in image.now) }
     ensures cells_after { cells.new ≡ transactions_over image.now (count_in image.now) cells.old }
 {
@@ -96,9 +91,8 @@ fn put_transactions(image: &[u8], count: u32, cells: &mut [u32]) -> u32
     before as u32
 }
 
-pub(crate) fn fill(image: &[u8], cells: &mut [u32])
+pub(crate) fn fill(image: &[u8], cells: &mut [u32; Table::CELLS])
     requires accepted { IsAccepted image.now }
-    requires row_cells_in_bounds { row_cells ≤ length cells.old }
     ensures { cells.new ≡ filled_over image.now cells.old }
 {
     let edition = bits::value(image, 0, Table::EDITION_WIDTH);

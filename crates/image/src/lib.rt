@@ -8,7 +8,7 @@ ghost use Rattle.format.specs.Places.{longest_image};
 ghost use Rattle.image.specs.Read.{row_for, row_over, front_fault, front_over};
 
 pub use due::{Due, due_at};
-use refusals::{Answer, Refusal, check};
+use refusals::{Answer, Fault, Refusal};
 use row::{Table, Task, Transaction};
 
 mod due;
@@ -67,7 +67,12 @@ pub fn read_in_front(image: &[u8], cells: &mut [u32]) -> Answer
     ensures cells_after { cells.new ≡ front_over (front_fault image.now cells.old) image.now cells.old }
 {
     scan::first_fault(image)?;
-    check(Table::CELLS <= cells.len(), Refusal::NoRoom, 0)?;
-    fill::fill(image, cells);
+    let Some(row) = cells.first_chunk_mut() else {
+        return Err(Fault {
+            refusal: Refusal::NoRoom,
+            place: 0,
+        });
+    };
+    fill::fill(image, row);
     Ok(())
 }

@@ -1,9 +1,9 @@
 // The first fault of an image, front to back. Reading a field is total, so a field is read whether the image holds it or not: that it
 // does is a check of its own that stands before, and what is read past a fault cannot show.
-ghost use Rattle.std.specs.Prelude.{◌≡◌, true, ◌+◌, ◌*◌, ◌^◌, ◌<◌, IsTrue};
+ghost use Rattle.std.specs.Prelude.{◌≡◌, ◌^◌, ◌<◌, IsTrue};
 ghost use Rattle.table.specs.Limits.{time_width};
 ghost use Rattle.refusals.specs.Answer.{accepted, first_of};
-ghost use Rattle.format.specs.Places.{task_at, time_at};
+ghost use Rattle.format.specs.Places.{time_at};
 ghost use Rattle.format.specs.Said.{frame_in};
 ghost use Rattle.format.specs.Fault.{ends_at, header_fault, task_fault, head_fault, transaction_fault, end_fault, body_fault, image_fault};
 

@@ -54,6 +54,7 @@ abbrev pub place_of : {A : Type 0} → (A → ℕ) → Result A Fault → ℕ
 place_of case_of (Ok x) = case_of x
 place_of case_of (Err f) = f.place
 
+-- 0 where no more is said, and 1 where there is nothing to say
 abbrev pub nothing_more : ⊤ → ℕ
 nothing_more x = 0
 

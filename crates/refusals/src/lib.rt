@@ -27,6 +27,7 @@ pub enum Refusal {
 }
 
 impl Refusal {
+    // A method, and no From: the promises and the README name it.
     pub fn number(self) -> u32
         ensures { result ≡ refusal_number self }
     {
@@ -75,7 +76,7 @@ impl Case for () {
     }
 }
 
-// 1 where there is nothing to say.
+// 1 where there is nothing to say. It stands here for `parts`, since a crate may give a trait only to a type of its own.
 impl<T> Case for Option<T> {
     ghost case_of = { option_case };
 
