@@ -1,5 +1,5 @@
 -- What counting cycles at once leaves of an L chain: the chain stays as it is, or goes on k whole cycles later.
-use mathlib.Core.Path.{◌≡◌, sym, ap, ap₂, subst, ◌∙◌}
+use mathlib.Core.Path.{◌≡◌, sym, ap, ap₂, ◌∙◌}
 use mathlib.Core.Logic.{inr}
 use Prim.Native.Nat.{ℕ, ◌+◌, ◌-◌, ◌*◌, ◌/◌, ◌%◌, ◌≤◌}
 use native.Mathlib.Nat.{zero-mul, add-mul, one-mul, div-add-mod'}
@@ -32,9 +32,6 @@ pub way_on : {f : ℕ → ℕ} {D x n y end v : ℕ} → Way f D x n y → Follo
 way_on {f} {D} {n = n} {y = y} way follows =
     let value = follows.value in
     rw (value, add-one n) (next way (rw (← value) follows.above) (rw (← value) follows.again))
-
-pub way-ends : {f : ℕ → ℕ} {D x n y : ℕ} → Way f D x n y → y ≡ x + D → Cycle f D x n
-way-ends {f} {D} {x} {n} way e = subst (Way f D x n) e way
 
 -- ---- no cycle is counted
 pub stays : {f : ℕ → ℕ} (left : ℕ) {t mark : ℕ} → Met t → Met mark → GoesOn f left t (record { t = record { 0 = t }; evaluations = 0; mark = record { 0 = mark } })

@@ -7,7 +7,7 @@ use native.Mathlib.Omega.{arith}
 use Rattle.table.specs.Limits.{horizon}
 use Rattle.table.specs.Table.{Table, IsTask, period, tasks, task, blocking}
 use Rattle.table.specs.Kept.{Kept}
-use Rattle.table.proofs.Ranges.{kept-period, offset-lt, period-lt, time-lt}
+use Rattle.table.proofs.Ranges.{kept-period}
 use Rattle.periods.specs.Phase.{ceil, ceiling}
 use Rattle.periods.specs.Charge.{imposed}
 use Rattle.periods.proofs.Difference.{sub-diff}
@@ -28,7 +28,7 @@ use Rattle.answers.specs.Near.{Near}
 use Rattle.answers.specs.Turn.{IsInstant, Reaches, Lasts, stopped}
 use Rattle.answers.proofs.Chain.{Comes, chain-comes}
 use Rattle.charge.proofs.Ranges.{held-of-lt}
-use Rattle.answers.proofs.Signed.{mag-diff, mag-shift, times-le}
+use Rattle.answers.proofs.Signed.{mag-diff, mag-shift}
 
 module _ {tab : Table} (kept : Kept tab) {u a : ℕ} (is_task : IsTask tab u a) where
   T : 0 < period tab u
@@ -73,24 +73,6 @@ module _ {tab : Table} (kept : Kept tab) {u a : ℕ} (is_task : IsTask tab u a) 
         let h = held_of tab u c a in
         rw instant.first (omega (arith, mag-diff (pos 1 -ℤ pos h) 1 h (sub-diff 1 h), held-of-lt kept is_task c))
 
-    pub instant-blocking : x.blocking.0 < 2 ^ 24
-    instant-blocking = rw instant.blocking blocking-lt
-
-    pub instant-time : x.time.0 < 2 ^ 24
-    instant-time = rw instant.time (time-lt kept is_task instant.setting.mode)
-
-    pub instant-period : x.period.0 < 2 ^ 24
-    instant-period = rw instant.period (period-lt kept is_task.owner)
-
-    pub instant-phase : x.phase.0 < x.period.0
-    instant-phase = rw (instant.phase, instant.period) (phase-period c)
-
-    pub instant-offset : x.offset.0 < 2 ^ 24
-    instant-offset = rw instant.offset (offset-lt kept is_task)
-
-    pub instant-candidate : IsTask tab u c
-    instant-candidate = record { owner = is_task.owner; place = instant.setting.place }
-
     pub instant-start : (p : ℤ) → x.blocking.0 + count (p -ℤ x.first.number +ℤ pos 1) * x.time.0 ≡ start tab u a m c p
     unfolding start jobs_to
     instant-start p = rw (instant.blocking, instant.first, instant.time) refl
@@ -117,9 +99,6 @@ module _ {tab : Table} (kept : Kept tab) {u a : ℕ} (is_task : IsTask tab u a) 
     -- the same turn, by the mode and the candidate that it holds
     pub instant-own : IsInstant tab u a x.mode x.candidate x
     instant-own = subst₂ (λ (n k : ℕ). IsInstant tab u a n k x) (sym instant.mode) (sym instant.candidate) instant
-
-    pub start-le : (p : ℤ) → Near p → x.blocking.0 + count (p -ℤ x.first.number +ℤ pos 1) * x.time.0 < 2 ^ 53
-    start-le p near = omega (arith, instant-blocking, times-le p x.first.number x.time.0 near instant-first instant-time)
 
   -- ---- demands
 

@@ -1,17 +1,15 @@
 -- The signed numbers of the walk in a machine word: a small one is read back from its bits as it is, the sizes of sums and
 -- multiples, and the counts that a test of signs decides.
-use mathlib.Core.Path.{◌≡◌, refl, sym, subst}
-use mathlib.Core.Bool.{true, false, not}
+use mathlib.Core.Path.{◌≡◌, refl, sym}
 use lib.IntN.{ℤ, pos, negsuc, neg_ℤ, sub_ℕ, nat_abs, ◌+ℤ◌, ◌-ℤ◌, ◌*ℤ◌}
-use lib.Signed.{mag, lt_z, non_neg, nat_abs-le}
+use lib.Signed.{mag, non_neg}
 use lib.Dec.{T}
 use Prim.Native.Nat.{ℕ, zero, suc, ◌+◌, ◌-◌, ◌*◌, ◌/◌, ◌%◌, ◌≤◌, ◌<◌, ◌^◌, min, max}
 use native.Mathlib.Nat.{le_refl, mul-le-mul, add-mul}
 use native.Mathlib.Omega.{arith}
 use mir.Syntax.{w64}
-use mir.Val.{Fits, SFits, to_z, of_z}
+use mir.Val.{SFits, to_z, of_z}
 use mir.Facts.{to_z-of_z, to_z_pos}
-use borrow.Author.Tests.{ltb-true, ltb-false, lt-ltb, le-ltb}
 use Rattle.std.specs.Int.{int_max, div_ceil}
 use Rattle.std.proofs.lemmas.Grind.{div_ceil_times}
 use Rattle.std.proofs.lemmas.Int.{ints, clamps}
@@ -79,15 +77,6 @@ module _ (T F : ℕ) (p : ℤ) (period : T < 2 ^ 24) (phase : F < 2 ^ 24) (near 
 
 -- ---- counts
 
-pub count-neg : (z : ℤ) → lt_z z (pos 0) ≡ true → count z ≡ 0
-unfolding count
-count-neg (pos n) e = absurd (omega (arith, ltb-true n 0 e))
-count-neg (negsuc n) e = refl
-
-pub not_neg : (z : ℤ) → lt_z z (pos 0) ≡ false → T (non_neg z)
-not_neg (pos n) e = tt
-not_neg (negsuc n) e = absurd (subst T e tt)
-
 pub count-abs : (z : ℤ) → T (non_neg z) → nat_abs z ≡ count z
 unfolding count
 count-abs (pos n) h = refl
@@ -97,42 +86,6 @@ count-mag : (z : ℤ) → count z ≤ mag z
 unfolding count
 count-mag (pos n) = le_refl n
 count-mag (negsuc n) = omega arith
-
-pub abs-fits : (z : ℤ) → mag z < 2 ^ 62 → Fits w64 (nat_abs z)
-abs-fits z h = record { fits = omega (arith, nat_abs-le z h) }
-
--- ---- p − f + 1, where p is below f and where it is not
-
-pub jobs-none : (p f : ℤ) → lt_z p f ≡ true → count (p -ℤ f +ℤ pos 1) ≡ 0
-unfolding count
-jobs-none p f e = go (p -ℤ f) (below p f e)
-  where
-    below : (p f : ℤ) → lt_z p f ≡ true → T (not (non_neg (p -ℤ f)))
-    below (pos a) (pos zero) e = absurd (omega (arith, ltb-true a 0 e))
-    below (pos a) (pos (suc b)) e = rw e tt
-    below (pos a) (negsuc b) e = absurd (subst T (sym e) tt)
-    below (negsuc a) (pos zero) e = rw (lt-ltb 0 (suc a) (omega arith)) tt
-    below (negsuc a) (pos (suc b)) e = tt
-    below (negsuc a) (negsuc b) e = rw (lt-ltb (suc b) (suc a) (omega (arith, ltb-true b a e))) tt
-
-    go : (z : ℤ) → T (not (non_neg z)) → count (z +ℤ pos 1) ≡ 0
-    go (pos n) h = absurd h
-    go (negsuc zero) h = refl
-    go (negsuc (suc n)) h = rw (lt-ltb 1 (suc (suc n)) (omega arith)) refl
-
-pub jobs-some : (p f : ℤ) → lt_z p f ≡ false → T (non_neg (p -ℤ f +ℤ pos 1))
-jobs-some p f e = go (p -ℤ f) (from p f e)
-  where
-    from : (p f : ℤ) → lt_z p f ≡ false → T (non_neg (p -ℤ f))
-    from (pos a) (pos zero) e = tt
-    from (pos a) (pos (suc b)) e = rw e tt
-    from (pos a) (negsuc b) e = tt
-    from (negsuc a) (pos b) e = absurd (subst T e tt)
-    from (negsuc a) (negsuc b) e = rw (le-ltb (suc b) (suc a) (omega (arith, ltb-false b a e))) tt
-
-    go : (z : ℤ) → T (non_neg z) → T (non_neg (z +ℤ pos 1))
-    go (pos n) h = tt
-    go (negsuc n) h = absurd h
 
 -- the times C of the jobs to p: there are at most 2^28 of them
 pub times-le : (p f : ℤ) (C : ℕ) → mag p < 2 ^ 26 → mag f < 2 ^ 26 → C < 2 ^ 24 → count (p -ℤ f +ℤ pos 1) * C ≤ 2 ^ 52
