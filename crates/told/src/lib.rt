@@ -118,6 +118,7 @@ impl TaskAnswer {
 }
 
 // What a caller gets of one task: document 01's code, the bound or 0, the evaluations, and who gave the bound.
+// The code is a number, since the cells are the C interface's, whatever they hold: a `Code` would ask more of `put`.
 #[derive(Clone, Copy)]
 pub struct TaskCells {
     pub code: u32,
