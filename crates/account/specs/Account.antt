@@ -59,6 +59,10 @@ charge_cells part.NoTransaction = []
 charge_cells part.NoRivals = []
 charge_cells (part.Charged c) = charge_listed c
 
+abbrev pub charge_cells_of : Result Part Fault → List ℕ
+charge_cells_of (Ok p) = charge_cells p
+charge_cells_of (Err f) = []
+
 abbrev pub share_cells : Share → List ℕ
 share_cells s = s.phase ∷ s.held ∷ s.ticks ∷ []
 

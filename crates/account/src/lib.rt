@@ -4,9 +4,10 @@
 
 ghost use Rattle.std.specs.Prelude.{◌≡◌};
 ghost use Rattle.table.specs.Limits.{transactions_most, tasks_most};
-ghost use Rattle.account.specs.Account.{charges_cell, shares_cell, charge_cells, share_cells, stored};
+ghost use Rattle.account.specs.Account.{charges_cell, shares_cell, charge_cells, charge_cells_of, share_cells, stored};
 
 use parts::{Charge, Part, Parts};
+use refusals::Fault;
 use row::{Table, Transaction};
 use told::TaskCells;
 
@@ -41,7 +42,15 @@ impl Account {
     pub const CELLS: usize = Account::SHARES + Share::COUNT * Transaction::TASKS;
 
     // Stores what transaction i charges, where it does; else leaves every cell.
-    pub fn put_charge(part: Part, cells: &mut [u64; Account::CELLS], i: usize)
+    pub fn put_charge(part: Result<Part, Fault>, cells: &mut [u64; Account::CELLS], i: usize)
+        ensures { cells.new ≡ stored charges_cell transactions_most i (charge_cells_of part) cells.old }
+    {
+        if let Ok(part) = part {
+            Account::put_part(part, cells, i);
+        }
+    }
+
+    fn put_part(part: Part, cells: &mut [u64; Account::CELLS], i: usize)
         ensures { cells.new ≡ stored charges_cell transactions_most i (charge_cells part) cells.old }
     {
         if i < Table::TRANSACTIONS {

@@ -66,7 +66,7 @@ fn put_charges(work: &[u32; Work::CELLS], s: Subject, t: u32, cells: &mut [u64; 
 {
     let count = reads::transactions(work);
     for i in 0..count {
-        Account::put_charge(pushed::charged(work, s, false, i, t), cells, i);
+        Account::put_charge(Ok(pushed::charged(work, s, false, i, t)), cells, i);
     }
 }
 

@@ -10,8 +10,8 @@ use row::{Task, Transaction};
 // A transaction of an image: where it starts, and its head, which is read once.
 #[derive(Clone, Copy)]
 pub(crate) struct TransactionAt<'a> {
-    pub image: &'a [u8],
-    pub at: usize,
+    pub(crate) image: &'a [u8],
+    pub(crate) at: usize,
     pub head: Transaction,
     ghost at_bound: { at < 2 ^ 30 },
     ghost head_value: { head ≡ head_at image.now at },
@@ -22,7 +22,7 @@ pub(crate) struct TransactionAt<'a> {
 impl<'a> TransactionAt<'a> {
     // In line: the scan and the fill are as quick as if each read the fields itself.
     #[inline(always)]
-    pub fn new(image: &'a [u8], at: usize) -> TransactionAt<'a>
+    pub(crate) fn new(image: &'a [u8], at: usize) -> TransactionAt<'a>
         requires { at < 2 ^ 30 }
         ensures image_value { result.image ≡ image.entry }
         ensures at_value { result.at ≡ at }
@@ -35,7 +35,7 @@ impl<'a> TransactionAt<'a> {
     }
 
     // Its task number j, or where one more would stand.
-    pub fn task(self, j: usize) -> TaskAt<'a>
+    pub(crate) fn task(self, j: usize) -> TaskAt<'a>
         requires { j < 32 }
         ensures image_value { result.image ≡ self.entry.image }
         ensures at_value { result.at ≡ task_at self.entry.at self.entry.head.modes j }
@@ -51,7 +51,7 @@ impl<'a> TransactionAt<'a> {
     }
 
     // Where it ends.
-    pub fn end(self) -> usize
+    pub(crate) fn end(self) -> usize
         ensures { result ≡ task_at self.entry.at self.entry.head.modes self.entry.head.tasks }
     {
         self.task(self.head.tasks).at
@@ -61,8 +61,8 @@ impl<'a> TransactionAt<'a> {
 // A task of an image: where it starts, and how many modes it has.
 #[derive(Clone, Copy)]
 pub(crate) struct TaskAt<'a> {
-    pub image: &'a [u8],
-    pub at: usize,
+    pub(crate) image: &'a [u8],
+    pub(crate) at: usize,
     pub modes: usize,
     ghost at_bound: { at < 2 ^ 32 },
     ghost modes_bound: { modes < 16 },
@@ -70,7 +70,7 @@ pub(crate) struct TaskAt<'a> {
 
 impl TaskAt<'_> {
     // What stands before its times.
-    pub fn body(self) -> Task
+    pub(crate) fn body(self) -> Task
         ensures { result ≡ body_at self.entry.image.now self.entry.at }
     {
         Task::new(
@@ -95,21 +95,21 @@ impl TaskAt<'_> {
     }
 
     // Where its time in a mode stands.
-    pub fn time_at(self, m: usize) -> usize
+    pub(crate) fn time_at(self, m: usize) -> usize
         requires { m < 16 }
         ensures { result ≡ time_at self.entry.at m }
     {
         self.at + Task::TIMES_AT + m * Task::TIME_WIDTH
     }
 
-    pub fn time(self, m: usize) -> u32
+    pub(crate) fn time(self, m: usize) -> u32
         requires { m < 16 }
         ensures { result ≡ time_in self.entry.image.now self.entry.at m }
     {
         bits::value(self.image, self.time_at(m), Task::TIME_WIDTH)
     }
 
-    pub fn greatest_time(self) -> u32
+    pub(crate) fn greatest_time(self) -> u32
         ensures { result ≡ greatest self.entry.modes (time_in self.entry.image.now self.entry.at) }
     {
         let mut most: u32 = 0;

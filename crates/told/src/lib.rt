@@ -2,7 +2,7 @@
 // is named here, and the cells of a task are counted here; how an answer is found is not known here.
 #![tactic(auto)]
 
-ghost use Rattle.std.specs.Prelude.{◌≡◌, ◌+◌, ◌^◌, ◌<◌, false, length, IfSome, IsNone};
+ghost use Rattle.std.specs.Prelude.{◌≡◌, ◌+◌, ◌%◌, ◌^◌, ◌<◌, false, length, IfSome, IsNone};
 ghost use Rattle.analysis.specs.Answer.{cells, unbounded};
 ghost use Rattle.told.specs.Cells.{has_room, listed, cells_in, stored, are_kept};
 ghost use Rattle.told.specs.Code.{code_number, CodeOf};
@@ -250,10 +250,10 @@ pub fn pair(upper: u32, lower: u32) -> u64
     u64::from(upper) * 4_294_967_296 + u64::from(lower)
 }
 
-// Whatever may be refused, in one number: its number and its place, or the case of what is not refused.
+// Whatever may be refused, in one number: its number and its place, or the case of what is not refused. A host in C gets 32 bits of a place,
+// which those of images and of lent cells fit.
 pub fn tell<A: Numbered>(answer: &A) -> u64
-    requires { A.placed answer.now < 2 ^ 32 }
-    ensures { result ≡ paired (A.numbered answer.now) (A.placed answer.now) }
+    ensures { result ≡ paired (A.numbered answer.now) (A.placed answer.now % 2 ^ 32) }
 {
-    pair(answer.number(), answer.place() as u32)
+    pair(answer.number(), (answer.place() % 4_294_967_296) as u32)
 }

@@ -21,7 +21,7 @@ pub(crate) struct TransactionAt<'a> {
 
 impl<'a> TransactionAt<'a> {
     // Its tasks, where its counts are accepted.
-    pub fn tasks(self) -> Tasks<'a>
+    pub(crate) fn tasks(self) -> Tasks<'a>
         requires modes_cell_bound { head_cell self.row.now self.number modes_cell ≤ modes_most }
         requires has_cell_bound { head_cell self.row.now self.number has_cell ≤ tasks_most }
         requires in_all_bound { self.before + head_cell self.row.now self.number has_cell ≤ tasks_in_all }
@@ -57,7 +57,7 @@ pub(crate) struct Tasks<'a> {
 
 impl<'a> Tasks<'a> {
     // Its task number j.
-    pub fn task(self, j: usize) -> TaskAt<'a>
+    pub(crate) fn task(self, j: usize) -> TaskAt<'a>
         requires { j < self.count }
         ensures row_value { result.row ≡ self.entry.row }
         ensures number_value { result.number ≡ self.entry.first + j }
@@ -73,7 +73,7 @@ impl<'a> Tasks<'a> {
     }
 
     // Where they would end.
-    pub fn end(self) -> usize
+    pub(crate) fn end(self) -> usize
         ensures { result ≡ self.entry.at + self.entry.count * task_width self.entry.modes }
     {
         self.at + self.count * self.width()
@@ -101,20 +101,20 @@ pub(crate) struct TaskAt<'a> {
 
 impl TaskAt<'_> {
     // Where its time in a mode would stand.
-    pub fn time_at(self, m: usize) -> usize
+    pub(crate) fn time_at(self, m: usize) -> usize
         requires { m < modes_most }
         ensures { result ≡ time_at self.entry.at m }
     {
         self.at + Task::TIMES_AT + m * Task::TIME_WIDTH
     }
 
-    pub fn time(self, m: usize) -> u32
+    pub(crate) fn time(self, m: usize) -> u32
         ensures { result ≡ time_cell self.entry.row.now self.entry.number m }
     {
         Table::time(self.row, self.number, m)
     }
 
-    pub fn greatest_time(self) -> u32
+    pub(crate) fn greatest_time(self) -> u32
         ensures { result ≡ greatest self.entry.modes (time_cell self.entry.row.now self.entry.number) }
     {
         let mut most: u32 = 0;

@@ -1,9 +1,7 @@
 -- `tell_parts` stores the parts, and gives number and place in one: every place fits 32 bits.
+use Rattle.std.proofs.Math.Nat.{mod-eq_of_lt}
 use Rattle.asked.proofs.Told.{made-place}
 use Rattle.asked.proofs.tell_parts.Goals as goal
-
-pub tell-requires : goal.tell-requires
-tell-requires c = made-place c.parts-made.ensures
 
 pub returns : goal.returns
 returns c =
@@ -11,5 +9,5 @@ returns c =
       made = c.parts-made.result;
       says = c.parts-made.ensures;
       cells = c.put.ensures;
-      number = c.tell.ensures;
+      number = rw (c.tell.ensures, mod-eq_of_lt (made-place c.parts-made.ensures));
     }

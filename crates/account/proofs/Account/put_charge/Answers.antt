@@ -1,24 +1,17 @@
--- `Account::put_charge` stores a charge in the cells of its transaction; a transaction that charges nothing has none to store.
-use Rattle.std.proofs.Common.{◌∙◌, sym, arith}
+-- `Account::put_charge` stores what there is; of a refusal there is nothing.
+use Rattle.std.proofs.Common.{◌≡◌, refl, Bool, true, false, cond, ℕ, List, []}
+use Rattle.std.specs.Prelude.{ltb}
 use Rattle.table.specs.Limits.{transactions_most}
-use Rattle.account.specs.Account.{charges_cell, charge_cells}
-use Rattle.parts.specs.Parts.{charge_listed}
-use Rattle.account.proofs.Laid.{stored_there, stored-mid, stored-nowhere, no-charge}
+use Rattle.account.specs.Account.{charges_cell, stored}
 use Rattle.account.proofs.Account.put_charge.Goals as goal
 
+either-way : (b : Bool) (cells : List ℕ) → cells ≡ cond b cells cells
+either-way true cells = refl
+either-way false cells = refl
+
+stored-none : (at count i : ℕ) (before : List ℕ) → before ≡ stored at count i [] before
+unfolding stored
+stored-none at count i before = either-way (ltb i count) before
+
 pub returns-in_default : goal.returns-in_default
-returns-in_default c =
-    let a = c.args in
-    sym (rw (stored_there charges_cell transactions_most a.i (charge_cells a.part) a.cells.now (omega arith), no-charge a.part c.in_default.not-Charged))
-
-pub returns-in-Charged : goal.returns-in-Charged
-returns-in-Charged c =
-    let a = c.args in
-    let x = c.in-Charged in
-    rw (c.copy_from_slice.ensures.after ∙ c.listed.ensures, x.is)
-    (stored-mid charges_cell transactions_most a.i (charge_listed x.charge) a.cells.now _ (omega arith) (omega arith) (omega arith))
-
-pub returns-else-i-lt-TRANSACTIONS : goal.returns-else-i-lt-TRANSACTIONS
-returns-else-i-lt-TRANSACTIONS c =
-    let a = c.args in
-    sym (stored-nowhere charges_cell transactions_most a.i (charge_cells a.part) a.cells.now c.if-i-lt-TRANSACTIONS.false)
+returns-in_default c = rw c.in_default.is (stored-none charges_cell transactions_most c.args.i c.args.cells.now)
