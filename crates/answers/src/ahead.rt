@@ -56,6 +56,7 @@ impl Linked<'_> {
         let end = Ticks(mark.0 + far.0);
         let mut z = mark;
         let mut evaluations: u32 = 0;
+        // a turn goes as far as the value is: no `for` says where the next begins
         while z.0 < end.0 {
             z = self.follower(x, far, end, z)?;
             evaluations += 1;

@@ -60,6 +60,7 @@ impl Linked<'_> {
         let mut made = used;
         let mut t = Ticks(1);
         let mut mark = Ticks(1);
+        // whole cycles are counted at once, so no `for` counts the evaluations
         while made < budget {
             let value = self.busy(x, t);
             made += 1;
@@ -92,6 +93,7 @@ impl Linked<'_> {
     {
         let mut made = used;
         let mut t = x.start(p);
+        // as above, one at a time
         while made < budget {
             let value = self.demand(x, false, p, t);
             made += 1;

@@ -3,7 +3,8 @@
 
 ghost use Rattle.answers.specs.Near.{Near};
 
-// A time, or a length of time, from the critical instant on.
+// A time, or a length of time, from the critical instant on. Ticks are compared by their numbers: by a derived order an evaluation took longer
+// (docs/DESIGN-PASS.md).
 #[derive(Clone, Copy)]
 pub(crate) struct Ticks(pub(crate) u64);
 

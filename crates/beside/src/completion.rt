@@ -121,6 +121,7 @@ fn walk(task: Alone) -> Option<u64>
     let own = task.own();
     let mut span = horizon;
     let mut t: u64 = 1;
+    // a step is as long as the line allows: no `for` says where the next one is
     while t <= horizon {
         let step = Step { task, t, span };
         let seen = step.over_all();

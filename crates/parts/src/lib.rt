@@ -74,7 +74,7 @@ impl Charge {
     }
 }
 
-// What one transaction charges one task.
+// What one transaction charges one task. Of the five cases none is an error, and no two are told alike, so none is an Option's.
 #[derive(Clone, Copy)]
 pub enum Part {
     // The task has no bound.
