@@ -12,6 +12,7 @@ use Rattle.table.specs.Rules.Deadlines.{keepable}
 use Rattle.table.proofs.Rules as rules
 use Rattle.refusals.specs.Answer.{accepted}
 use Rattle.refusals.proofs.Findings.{then-joins, none_first, none-second, held}
+use Rattle.format.specs.Cases
 use Rattle.format.specs.Places.{place_in_header, place_in_head, place_in_task, time_at, task_at, start, bytes_to}
 use Rattle.format.specs.Said.{frame_in, count_in, modes_in, tasks_in, tasks_before}
 use Rattle.format.specs.Fault.{look_at, image_look, header_fault, head_fault, end_fault, image_fault, IsAccepted}

@@ -9,6 +9,7 @@ use Rattle.bits.specs.Bits.{bit_at, value_at, field_bits}
 use Rattle.bits.proofs.Fields.{bit_below}
 use Rattle.table.specs.Lists.{list_of, joined}
 use Rattle.table.proofs.Lists.{list_of-next}
+use Rattle.format.specs.ImageCases
 
 -- the n bits from p
 unfoldable pub bits_from : List ℕ → ℕ → ℕ → List ℕ

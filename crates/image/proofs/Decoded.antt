@@ -21,6 +21,7 @@ use Rattle.row.proofs.Longer.{same-held, longer}
 use Rattle.format.specs.Fault.{image_fault, IsAccepted}
 use Rattle.format.specs.Said.{table_in}
 use Rattle.format.proofs.Kept.{kept}
+use Rattle.image.specs.Cases
 use Rattle.image.specs.Fill.{filled_over}
 use Rattle.image.specs.Read.{front_fault}
 use Rattle.image.proofs.Cells.{length-filled}

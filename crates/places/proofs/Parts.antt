@@ -9,6 +9,7 @@ use lib.Dec.{ltb}
 use borrow.Author.Tests.{lt-ltb, le-ltb}
 use Rattle.table.specs.Fields.{HeaderField, HeadField, TaskField, IsTaskField, width_in_header, width_in_head, width_in_task}
 use Rattle.format.specs.Places.{frame_at, count_at, first_at, modes_at, tasks_at, head_width, jitter_at, blocking_at, deadline_at, priority_at, times_at, place_in_header, place_in_head, place_in_task, task_width}
+use Rattle.places.specs.Cases
 use Rattle.places.specs.Held.{Among}
 use Rattle.std.proofs.Common.{if◌then◌else◌}
 use Rattle.places.specs.Find.{header_field_at, head_field_at, task_field_at}

@@ -11,6 +11,7 @@ use Rattle.refusals.proofs.Findings.{Joins, none_of, none-in-all, held, holds, b
 use Rattle.table.specs.Sum.{sum, greatest}
 use Rattle.table.specs.Limits.{Limits, edition_known}
 use Rattle.table.specs.Fields.{HeaderField, HeadField, TaskField, Field, IsTaskField}
+use Rattle.table.specs.RuleCases
 use Rattle.table.specs.Rules.Deadlines.{any, keepable}
 use Rattle.table.specs.Rules.{Look, part, is_between, Deadlines, asked, rule, header_rules, head_rules, task_rules, transaction_rules, body_rules, table_rules}
 
