@@ -8,6 +8,7 @@ use native.Mathlib.Omega.{arith}
 use Rattle.refusals.specs.declared.Refusal.{Refusal}
 use Rattle.refusals.specs.declared.Fault.{Fault}
 use Rattle.std.specs.Prelude.{Ok, Err}
+use Rattle.std.specs.Result.{result_and}
 use Rattle.refusals.specs.Answer.{Answer, accepted, refused, ◌then◌, found_of, first_of, checked}
 
 -- one name that opens how findings are joined, for functions that give them by `?`
@@ -41,6 +42,12 @@ pub then-assoc : (a b c : Answer) → (a then b then c) ≡ (a then (b then c))
 unfolding ◌then◌
 then-assoc (Ok x) b c = refl
 then-assoc (Err f) b c = refl
+
+-- it is what std's `Result::and` gives, which is as well what `?` goes by
+pub then-and : (a b : Answer) → (a then b) ≡ result_and a b
+unfolding ◌then◌
+then-and (Ok x) b = refl
+then-and (Err f) b = refl
 
 pub then-accepted : (a : Answer) → (a then accepted) ≡ a
 unfolding ◌then◌
