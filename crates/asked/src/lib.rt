@@ -8,7 +8,7 @@ ghost use Rattle.parts.specs.Parts.{Makes, ChargesOne, HasPart, part_place};
 ghost use Rattle.asked.specs.Asked.{TellsFilled, TellsMade, TellsPart, TellsAs, is_whole};
 
 use parts::{Charge, Part, Parts};
-use refusals::Fault;
+use refusals::{Fault, Numbered};
 
 // The part of one transaction in the bound of one task.
 pub fn part(image: &[u8], task: u32, budget: u32, transaction: u32) -> Result<Part, Fault>
@@ -34,7 +34,8 @@ pub fn tell_parts(image: &[u8], task: u32, budget: u32, cells: &mut [i64; Parts:
 {
     let made = answers::parts(image, task, budget);
     Parts::put(made, cells);
-    told::tell(&made)
+    // by the names of the cases, and so not by `tell`
+    told::pair(made.number(), Parts::place(made) as u32)
 }
 
 // An answer on one transaction, into the cells.

@@ -3,7 +3,7 @@
 #![tactic(auto)]
 
 ghost use Rattle.std.specs.Prelude.{◌≡◌};
-ghost use Rattle.parts.specs.Parts.{parts_listed, made_cells, charge_listed, part_case, part_cells};
+ghost use Rattle.parts.specs.Parts.{parts_listed, made_cells, made_place, charge_listed, part_case, part_cells};
 
 use refusals::{Case, Fault};
 
@@ -29,6 +29,17 @@ impl Parts {
     pub const GIVEN: usize = 0;
 
     pub const NO_BOUND: usize = 1;
+
+    // The place of an answer: what `Numbered` gives too, by these names.
+    pub fn place(made: Result<Option<Parts>, Fault>) -> usize
+        ensures { result ≡ made_place made }
+    {
+        match made {
+            Ok(Some(_)) => Parts::GIVEN,
+            Ok(None) => Parts::NO_BOUND,
+            Err(fault) => fault.place,
+        }
+    }
 
     // Each in its place.
     fn listed(self) -> [i64; Parts::COUNT]

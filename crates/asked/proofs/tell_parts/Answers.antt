@@ -1,7 +1,10 @@
 -- `tell_parts` stores the parts, and gives number and place in one: every place fits 32 bits.
-use Rattle.std.proofs.Math.Nat.{mod-eq_of_lt}
+use Rattle.std.proofs.Common.{refl, arith}
 use Rattle.asked.proofs.Told.{made-place}
 use Rattle.asked.proofs.tell_parts.Goals as goal
+
+pub overflow_cast-place : goal.overflow_cast-place
+overflow_cast-place c = omega (arith, c.place.ensures, made-place c.parts-made.ensures)
 
 pub returns : goal.returns
 returns c =
@@ -9,5 +12,5 @@ returns c =
       made = c.parts-made.result;
       says = c.parts-made.ensures;
       cells = c.put.ensures;
-      number = rw (c.tell.ensures, mod-eq_of_lt (made-place c.parts-made.ensures));
+      number = rw (c.pair.ensures, c.number.ensures, c.place.ensures) refl;
     }
