@@ -1,5 +1,5 @@
 // Standard output as the writers hold it.
-ghost use Rattle.std.specs.Prelude.{◌≡◌, pos, Some, true};
+ghost use Rattle.std.specs.Prelude.{◌≡◌, ◌≤◌, pos, Some, true};
 ghost use Rattle.std.specs.IoError.{raw_os_error};
 ghost use Rattle.page.specs.Handle.{Agrees, Writes, number_of, whole};
 
@@ -10,6 +10,9 @@ use std::{fmt, io};
 
 // The width of a column of numbers that are aligned.
 const ALIGNED: usize = 9;
+
+// As many bytes as the text of one `write!` mostly has.
+const TEXT: usize = 128;
 
 // Standard output, and errno's number of the write that failed. Behind it nothing is written.
 #[derive(Clone, Copy)]
@@ -47,7 +50,7 @@ impl Out {
     pub fn say(&mut self, text: &[u8]) -> io::Result<()>
         ensures { Writes self.old self.new result }
     {
-        self.state()?;
+        self.state()?; // behind a write that failed nothing is written
         match self.to.write_all(text) {
             Ok(()) => Ok(()),
             Err(e) => {
@@ -63,9 +66,11 @@ impl Out {
         ensures { Writes self.old self.new result }
     {
         self.state()?;
-        let mut pieces = Formatter::new(Pieces(*self));
+        let mut pieces = Formatter::new(Pieces::new(*self));
         let told = pieces.write(text);
-        *self = pieces.into_inner().0;
+        let mut pieces = pieces.into_inner();
+        pieces.flush();
+        *self = pieces.out;
         // a text that could not be made is lost too
         if told.is_err() {
             self.lost = self.lost.or(Some(0));
@@ -119,18 +124,65 @@ impl Out {
         ensures { Writes self.old self.new result }
     {
         if red {
-            self.say(b"\x1b[0m")?;
+            self.say(b"\x1b[0m\n")
+        } else {
+            self.say(b"\n")
         }
-        self.say(b"\n")
     }
 }
 
-// The handle as the pieces of a text come to it.
-#[derive(Clone, Copy)]
-struct Pieces(Out);
+// The bytes that are gathered.
+#[derive(Drop)]
+struct Gathered {
+    bytes: [u8; TEXT],
+    n: usize,
+    ghost within: { n ≤ 128 },
+}
+
+impl Gathered {
+    fn text(&self) -> &[u8] {
+        &self.bytes[..self.n]
+    }
+}
+
+// The handle as the pieces of a text come to it. They are gathered, since a write of its own for each costs more than its text.
+#[derive(Drop)]
+struct Pieces {
+    out: Out,
+    gathered: Gathered,
+}
+
+impl Pieces {
+    fn new(out: Out) -> Pieces {
+        let bytes = [0; TEXT];
+        Pieces {
+            out,
+            gathered: Gathered { bytes, n: 0 },
+        }
+    }
+
+    // Writes what is gathered. The handle keeps whether it was taken.
+    fn flush(&mut self)
+        ensures { self.new.gathered.n ≡ 0 }
+    {
+        let _ = self.out.say(self.gathered.text());
+        self.gathered.n = 0;
+    }
+
+    fn push(&mut self, b: u8) {
+        if self.gathered.n == TEXT {
+            self.flush();
+        }
+        self.gathered.bytes[self.gathered.n] = b;
+        self.gathered.n += 1;
+    }
+}
 
 impl fmt::Write for Pieces {
     fn write_str(&mut self, piece: &str) -> fmt::Result {
-        self.0.say(piece.as_bytes()).map_err(|_| fmt::Error)
+        for b in piece.as_bytes() {
+            self.push(*b);
+        }
+        Ok(())
     }
 }

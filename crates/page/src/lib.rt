@@ -8,4 +8,4 @@ mod sheet;
 
 pub use handle::Out;
 pub use numbers::Grouped;
-pub use sheet::Sheet;
+pub use sheet::{SHEET, Sheet};

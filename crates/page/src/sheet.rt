@@ -9,7 +9,8 @@ use crate::numbers::Grouped;
 use std::fmt::{Display, InlineText};
 use std::io;
 
-const SHEET: usize = 65_536;
+// How many bytes a sheet has room for.
+pub const SHEET: usize = 65_536;
 
 // As wide as a number may be with its commas.
 const WIDEST: usize = 26;
@@ -65,14 +66,12 @@ impl Sheet {
         Ok(())
     }
 
-    fn lay(&mut self, b: u8) -> io::Result<()>
-        ensures { Writes self.old.out self.new.out result }
-    {
-        if self.laid.n == SHEET {
-            self.flush()?;
+    // Lays a byte. Where the sheet is full and cannot be written the byte is lost, which the handle keeps: a page has many bytes, and an
+    // answer for each took twice the time.
+    fn lay(&mut self, b: u8) {
+        if self.laid.n < SHEET || self.flush().is_ok() {
+            self.laid.push(b);
         }
-        self.laid.push(b);
-        self.out.state()
     }
 
     // A text as it is.
@@ -81,16 +80,16 @@ impl Sheet {
     {
         self.out.state()?;
         for b in text {
-            self.lay(*b)?;
+            self.lay(*b);
         }
-        Ok(())
+        self.out.state()
     }
 
-    // A number, as it shows itself.
-    fn show<D: Display + Drop>(&mut self, n: D) -> io::Result<()>
-        ensures { Writes self.old.out self.new.out result }
-    {
-        self.put(InlineText::<WIDEST>::of(n).as_str().as_bytes())
+    // Lays a number, as it shows itself.
+    fn show<D: Display + Drop>(&mut self, n: D) {
+        for b in InlineText::<WIDEST>::of(n).as_str().as_bytes() {
+            self.lay(*b);
+        }
     }
 
     // A form with its numbers, one for each mark: @ as digits alone, $ with commas.
@@ -101,19 +100,21 @@ impl Sheet {
         let mut numbers = numbers.iter().copied();
         for b in form {
             match *b {
-                b'@' => self.show(numbers.next().unwrap_or(0))?,
-                b'$' => self.show(Grouped(numbers.next().unwrap_or(0)))?,
-                b => self.lay(b)?,
+                b'@' => self.show(numbers.next().unwrap_or(0)),
+                b'$' => self.show(Grouped(numbers.next().unwrap_or(0))),
+                b => self.lay(b),
             }
         }
-        Ok(())
+        self.out.state()
     }
 
     // A byte as two digits of base 16.
     pub fn byte(&mut self, b: u8) -> io::Result<()>
         ensures { Writes self.old.out self.new.out result }
     {
-        self.show(format_args!("{b:02x}"))
+        self.out.state()?;
+        self.show(format_args!("{b:02x}"));
+        self.out.state()
     }
 
     fn character(&mut self, c: char) -> io::Result<()>
