@@ -5,8 +5,9 @@
 #![tactic(auto)]
 
 use refusals::Numbered;
-use std::io;
-use std::io::{Print, Read};
+use std::fmt::Write;
+use std::io::{Print, Read, Stdout};
+use std::{fmt, io};
 
 // More bytes than two say.
 const IMAGE: usize = 65_536;
@@ -14,39 +15,44 @@ const IMAGE: usize = 65_536;
 // Some more than any table needs.
 const MOST: usize = sumpcandle::CELLS + 8;
 
-fn show(rt: &HostRuntime, cells: &[u32]) -> io::Result<()> {
-    for cell in cells {
-        print!(rt; "{cell} ")?;
+// Standard output. What can't be written is lost, and no writer fails.
+#[derive(Drop)]
+struct Out(Stdout);
+
+impl fmt::Write for Out {
+    fn write_str(&mut self, text: &str) -> fmt::Result {
+        let _ = self.0.write_all(text.as_bytes());
+        Ok(())
     }
-    println!(rt)
 }
 
-fn told(rt: &HostRuntime, image: &[u8], budget: u32, cells: &mut [u32]) -> io::Result<()> {
+fn show(out: &mut Out, cells: &[u32]) -> fmt::Result {
+    for cell in cells {
+        write!(out, "{cell} ")?;
+    }
+    writeln!(out)
+}
+
+fn told(out: &mut Out, image: &[u8], budget: u32, cells: &mut [u32]) -> fmt::Result {
     let answer = sumpcandle::cells(image, budget, cells);
     let response = sumpcandle::sumpcandle_response(image, 0, budget);
-    print!(rt; "{} {} {response} ", answer.number(), answer.place())?;
-    show(rt, cells)
-}
-
-// A number of two bytes.
-fn two(from: &mut impl Read) -> io::Result<u16> {
-    let mut bytes = [0u8; 2];
-    from.read_exact(&mut bytes)?;
-    Ok(u16::from_be_bytes(bytes))
+    write!(out, "{} {} {response} ", answer.number(), answer.place())?;
+    show(out, cells)
 }
 
 // One case; an error at the end of the input.
 fn case(rt: &HostRuntime, image: &mut [u8; IMAGE]) -> io::Result<()> {
     let mut from = rt.stdin();
-    let mut budget = [0u8; 4];
-    from.read_exact(&mut budget)?;
-    let count = usize::from(two(&mut from)?);
-    let length = usize::from(two(&mut from)?);
+    let mut head = [0u8; 8];
+    from.read_exact(&mut head)?;
+    let budget = u32::from_be_bytes([head[0], head[1], head[2], head[3]]);
+    let count = usize::from(u16::from_be_bytes([head[4], head[5]]));
+    let length = usize::from(u16::from_be_bytes([head[6], head[7]]));
     let image = &mut image[..length];
     from.read_exact(image)?;
     let mut cells = [7u32; MOST];
     if count <= MOST {
-        told(rt, image, u32::from_be_bytes(budget), &mut cells[..count])?;
+        let _ = told(&mut Out(rt.stdout()), image, budget, &mut cells[..count]);
     }
     Ok(())
 }

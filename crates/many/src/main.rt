@@ -87,13 +87,14 @@ fn case(
     line: &mut Line,
 ) -> io::Result<()> {
     let mut from = rt.stdin();
-    let mut budget = [0u8; 4];
-    let mut length = [0u8; 2];
-    from.read_exact(&mut budget)?;
-    from.read_exact(&mut length)?;
-    let image = &mut image[..usize::from(u16::from_be_bytes(length))];
+    // by one read, which costs more than a small case does
+    let mut head = [0u8; 6];
+    from.read_exact(&mut head)?;
+    let budget = u32::from_be_bytes([head[0], head[1], head[2], head[3]]);
+    let length = u16::from_be_bytes([head[4], head[5]]);
+    let image = &mut image[..usize::from(length)];
     from.read_exact(image)?;
-    answer(rt, image, u32::from_be_bytes(budget), cells, line);
+    answer(rt, image, budget, cells, line);
     Ok(())
 }
 

@@ -7,26 +7,61 @@ ghost use Rattle.std.specs.Prelude.{◌≤◌, ◌<◌, length};
 
 use refusals::Numbered;
 use row::Table;
-use std::io;
-use std::io::{Stdout, Write};
+use std::fmt;
+use std::fmt::Write;
+use std::io::{Print, Read, Stdin, Stdout};
 
 // The bytes of standard input that are read.
 const TEXT: usize = 65_536;
 
-fn main(rt: HostRuntime) -> io::Result<()> {
-    let mut text = [0u8; TEXT];
-    let n = input::take_in(&mut rt.stdin(), &mut text)?;
-    let mut out = rt.stdout();
-    for line in text[..n].split_inclusive(|b| *b == b'\n') {
-        show_line(&mut out, line.strip_suffix(b"\n").unwrap_or(line))?;
+// Standard output. What can't be written is lost, and no writer fails.
+#[derive(Drop)]
+struct Out(Stdout);
+
+impl Out {
+    fn bytes(&mut self, text: &[u8]) {
+        let _ = self.0.write_all(text);
     }
-    Ok(())
 }
 
-fn show_line(out: &mut Stdout, line: &[u8]) -> io::Result<()> {
+impl fmt::Write for Out {
+    fn write_str(&mut self, text: &str) -> fmt::Result {
+        self.bytes(text.as_bytes());
+        Ok(())
+    }
+}
+
+fn main(rt: HostRuntime) {
+    let mut text = [0u8; TEXT];
+    let n = filled(&mut rt.stdin(), &mut text);
+    let mut out = Out(rt.stdout());
+    for line in text[..n].split_inclusive(|b| *b == b'\n') {
+        let _ = show_line(&mut out, line.strip_suffix(b"\n").unwrap_or(line));
+    }
+}
+
+// Fills the buffer, to its end or to the end of the input; where reading fails, the input ends. So it is not `input::take_in`, which tells
+// of the failure and not of what was read before.
+fn filled(from: &mut Stdin, text: &mut [u8]) -> usize
+    ensures { result ≤ length text.new }
+{
+    // no `for`: a turn goes on by as many bytes as its read gave
+    let mut n: usize = 0;
+    while n < text.len() {
+        let more = from.read(&mut text[n..]).unwrap_or(0);
+        if more == 0 {
+            break;
+        }
+        n += more;
+    }
+    n
+}
+
+fn show_line(out: &mut Out, line: &[u8]) -> fmt::Result {
     if line.starts_with(b"#") {
-        out.write_all(line)?;
-        return out.write_all(b"\n");
+        out.bytes(line);
+        out.bytes(b"\n");
+        return Ok(());
     }
     let mut bytes = [0u8; input::BUFFER];
     let n = decoded(line, &mut bytes);
@@ -53,7 +88,7 @@ fn digit(b: u8) -> u8
     }
 }
 
-fn show(out: &mut Stdout, image: &[u8]) -> io::Result<()> {
+fn show(out: &mut Out, image: &[u8]) -> fmt::Result {
     let reading = image::read(image);
     let answer = reading.answer;
     write!(out, "{} {}\n", answer.number(), answer.place())?;
@@ -63,7 +98,7 @@ fn show(out: &mut Stdout, image: &[u8]) -> io::Result<()> {
     Ok(())
 }
 
-fn show_table(out: &mut Stdout, row: &[u32]) -> io::Result<()> {
+fn show_table(out: &mut Out, row: &[u32]) -> fmt::Result {
     write!(
         out,
         "edition {} frame {} transactions {} tasks {}\n",
@@ -78,7 +113,7 @@ fn show_table(out: &mut Stdout, row: &[u32]) -> io::Result<()> {
     Ok(())
 }
 
-fn show_transaction(out: &mut Stdout, row: &[u32], u: usize) -> io::Result<()> {
+fn show_transaction(out: &mut Out, row: &[u32], u: usize) -> fmt::Result {
     let first = Table::first(row, u);
     let tasks = Table::tasks(row, u);
     write!(
@@ -96,7 +131,7 @@ fn show_transaction(out: &mut Stdout, row: &[u32], u: usize) -> io::Result<()> {
 }
 
 // The task with number k, which has so many modes.
-fn show_task(out: &mut Stdout, row: &[u32], k: usize, modes: usize) -> io::Result<()> {
+fn show_task(out: &mut Out, row: &[u32], k: usize, modes: usize) -> fmt::Result {
     write!(
         out,
         " offset {} jitter {} blocking {} deadline {} priority {} times",
@@ -109,5 +144,5 @@ fn show_task(out: &mut Stdout, row: &[u32], k: usize, modes: usize) -> io::Resul
     for m in 0..modes {
         write!(out, " {}", Table::time(row, k, m))?;
     }
-    out.write_all(b"\n")
+    writeln!(out)
 }
