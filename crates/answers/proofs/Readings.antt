@@ -3,7 +3,7 @@ use mathlib.Core.Path.{◌≡◌, ap, ◌∙◌, subst}
 use mathlib.Core.Bool.{Bool, true, false}
 use mathlib.Core.List.{List}
 use Prim.Native.Nat.{ℕ, ◌+◌, ◌*◌, ◌-◌, ◌/◌, ◌%◌, ◌^◌, ◌≤◌, ◌<◌}
-use native.Mathlib.Nat.{add-mul, le_trans, mul-le-mul, mul-le-mul_right, le-mul_of_pos_right}
+use native.Mathlib.Nat.{add-zero, add-mul, le_trans, mul-le-mul, mul-le-mul_right, le-mul_of_pos_right}
 use native.Mathlib.Omega.{arith}
 use lib.ListN.{get_or}
 use Rattle.row.specs.Row.{table_of}
@@ -171,6 +171,10 @@ module _ {work : List ℕ} (lent : Lent work) {i : ℕ} {x : Split} (split : IsS
     module _ {c : ℕ} (k : IsTask (table_of work) i c) (whole : Bool) where
       abbrev rest_in : ℕ → ℕ
       rest_in j = rest_cell work whole x (phases_cell + tasks_most * (x.first + c)) (weights_cell + tasks_in_all * m + x.first) j
+
+      -- the first task's cells are read without an offset
+      pub rest-first : rest_in 0 ≡ rest_of whole x.periods x.period x.rest (get_or work (phases_cell + tasks_most * (x.first + c)) 0) (get_or work (weights_cell + tasks_in_all * m + x.first) 0)
+      rest-first = rw (add-zero (phases_cell + tasks_most * (x.first + c)), add-zero (weights_cell + tasks_in_all * m + x.first))
 
       rest_in-rest_at : {j : ℕ} → IsTask (table_of work) i j → rest_in j ≡ rest_at whole (table_of work) s.u s.a i m c x.periods x.rest j
       unfolding rest_at

@@ -2,7 +2,7 @@
 use mathlib.Core.Path.{sym}
 use native.Mathlib.Omega.{arith}
 use Rattle.answers.proofs.Readings.{whole_le, charge-at, charge-fits}
-use Rattle.answers.proofs.charges.Setting.charge.Goals as goal
+use Rattle.answers.proofs.charges.Setting.charge_with.Goals as goal
 
 pub overflow_mul-passed : goal.overflow_mul-passed
 overflow_mul-passed c =
@@ -15,7 +15,7 @@ pub returns : goal.returns
 returns c =
     let setting = c.self.invariant.0 in
     let y = c.self.inside in
-    rw (c.held_back.ensures, c.whole_periods.ensures, c.mode_weight.ensures, c.from-rest.ensures, c.rests.ensures, ← c.self.view_is)
+    rw (c.held_back.ensures, c.whole_periods.ensures, c.mode_weight.ensures, c.from-rest.ensures, c.requires, ← c.self.view_is)
     (sym (charge-at setting.lent.table.kept setting.split c.args.whole y.s.u y.s.a y.m y.c))
 
 pub overflow_add-result : goal.overflow_add-result
