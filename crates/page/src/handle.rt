@@ -69,13 +69,14 @@ impl Out {
         let mut pieces = Formatter::new(Pieces::new(*self));
         let told = pieces.write(text);
         let mut pieces = pieces.into_inner();
-        pieces.flush();
+        let written = pieces.flush();
         *self = pieces.out;
         // a text that could not be made is lost too
         if told.is_err() {
             self.lost = self.lost.or(Some(0));
+            return self.state();
         }
-        self.state()
+        written
     }
 
     // A number, with blanks before it to fill a column.
@@ -162,16 +163,18 @@ impl Pieces {
     }
 
     // Writes what is gathered. The handle keeps whether it was taken.
-    fn flush(&mut self)
-        ensures { self.new.gathered.n ≡ 0 }
+    fn flush(&mut self) -> io::Result<()>
+        ensures keeps { Agrees self.new.out result }
+        ensures empty { self.new.gathered.n ≡ 0 }
     {
-        let _ = self.out.say(self.gathered.text());
+        let written = self.out.say(self.gathered.text());
         self.gathered.n = 0;
+        written
     }
 
     fn push(&mut self, b: u8) {
         if self.gathered.n == TEXT {
-            self.flush();
+            let _ = self.flush();
         }
         self.gathered.bytes[self.gathered.n] = b;
         self.gathered.n += 1;

@@ -1,7 +1,8 @@
 // A page of many small pieces: they are laid into a sheet of bytes, which is written when it is full. A form's numbers are told apart
 // by a sign each, since nearly every one of them would else be wrapped for its commas.
-ghost use Rattle.std.specs.Prelude.{◌≡◌, ◌<◌, ◌≤◌, OnOk};
-ghost use Rattle.page.specs.Handle.{Writes};
+ghost use Rattle.std.specs.Prelude.{◌≡◌, ◌<◌, ◌≤◌, OnOk, false};
+ghost use Rattle.page.specs.Handle.{Writes, whole};
+ghost use Rattle.page.specs.Whole.{Keeps};
 ghost use Rattle.page.specs.Plain.{is_plain};
 
 use crate::handle::Out;
@@ -68,7 +69,11 @@ impl Sheet {
 
     // Lays a byte. Where the sheet is full and cannot be written the byte is lost, which the handle keeps: a page has many bytes, and an
     // answer for each took twice the time.
-    fn lay(&mut self, b: u8) {
+    #[tactic(auto, unfolding(crate::specs::Whole::taken))]
+    fn lay(&mut self, b: u8)
+        ensures keeps { Keeps (whole self.old.out) (whole self.new.out) }
+        ensures stays { whole self.old.out ≡ false → self.new.out ≡ self.old.out }
+    {
         if self.laid.n < SHEET || self.flush().is_ok() {
             self.laid.push(b);
         }
