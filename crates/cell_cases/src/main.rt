@@ -43,6 +43,7 @@ fn told(out: &mut Out, image: &[u8], budget: u32, cells: &mut [u32]) -> fmt::Res
 // One case; an error at the end of the input.
 fn case(rt: &HostRuntime, image: &mut [u8; IMAGE]) -> io::Result<()> {
     let mut from = rt.stdin();
+    // by one read, as in `many`
     let mut head = [0u8; 8];
     from.read_exact(&mut head)?;
     let budget = u32::from_be_bytes([head[0], head[1], head[2], head[3]]);

@@ -87,7 +87,7 @@ fn case(
     line: &mut Line,
 ) -> io::Result<()> {
     let mut from = rt.stdin();
-    // by one read, which costs more than a small case does
+    // by one read: another costs more than a small case does
     let mut head = [0u8; 6];
     from.read_exact(&mut head)?;
     let budget = u32::from_be_bytes([head[0], head[1], head[2], head[3]]);
